@@ -1,0 +1,10 @@
+pub mod Files
+pub mod Causes
+pub mod Given
+pub mod Outside
+pub mod Listed
+pub mod Calls
+pub mod Failing
+pub mod Kept
+pub mod Memory
+pub mod Slices
