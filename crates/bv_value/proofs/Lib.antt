@@ -1,0 +1,5 @@
+pub mod Powers
+pub mod Bits
+pub mod Signs
+pub mod Rows
+pub mod Results

@@ -1,0 +1,4 @@
+pub mod Bits
+pub mod BitVector
+pub mod Operations
+pub mod Signs
