@@ -1,6 +1,6 @@
 -- The plain form of a builder: a limit, and the gates in the order in which they were made, each as the
 -- pair of its fanins.
-use Rattle.std.specs.Prelude.{◌≡◌, ℕ, ◌+◌, ◌<◌, ◌≤◌, Bool, true, false, not, ◌&&◌, ◌||◌, List, [], ◌∷◌, ◌++◌, length, map, nat_eq, nat_lt, if◌then◌else◌, slice_index_or, ◌↔◌, OnErr, Result, Err}
+use Rattle.std.specs.Prelude.{◌≡◌, ℕ, ◌<◌, ◌≤◌, Bool, false, not, ◌&&◌, ◌||◌, List, [], ◌∷◌, ◌++◌, length, nat_eq, nat_lt, if◌then◌else◌, slice_index_or, ◌↔◌, OnErr, Result, Err}
 use Rattle.gate_shape.specs.Literal.{Literal}
 use Rattle.gate_shape.specs.Edge.{Edge, Gate, constant, same_gate, gate_level}
 use Rattle.gate_shape.specs.Row.{Row}

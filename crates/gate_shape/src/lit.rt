@@ -1,9 +1,11 @@
 //! Literals of a circuit: a node number and a sign in 23 bits, so that two of them and a level fit
 //! one 64-bit gate word.
 
-ghost use Rattle.std.specs.Prelude.{◌≡◌, ℕ, ◌+◌, ◌*◌, ◌<◌, ◌≤◌};
-ghost use Rattle.gate_shape.specs.Literal.{opposite, literal_number};
+ghost use Rattle.std.specs.Prelude.{◌≡◌, ℕ, ◌+◌, ◌*◌, ◌<◌, ◌≤◌, false};
+ghost use Rattle.gate_shape.specs.Literal.{opposite, literal_number, number_literal};
 ghost use Rattle.gate_shape.specs.Word.{same_literal};
+ghost use Rattle.gate_shape.specs.Edge.{input};
+ghost use Rattle.gate_shape.specs.Builds.{Meaning, Stands};
 
 use std::marker::Model;
 
@@ -69,10 +71,28 @@ impl Lit23 {
         self.bits
     }
 
+    /// The literal of a number below 2^23.
+    pub(crate) fn from_bits(bits: u32) -> Lit23
+        requires { bits < 8388608 }
+        ensures { result ≡ number_literal bits }
+    {
+        Lit23 { bits }
+    }
+
     /// Whether the two are the same literal.
     pub(crate) fn is(self, other: Lit23) -> bool
         ensures { result ≡ same_literal self other }
     {
         self.node() == other.node() && self.sign() == other.sign()
     }
+}
+
+/// The literal of bit j of variable k, which every builder knows.
+pub fn input(k: u8, j: u8) -> Lit23
+    requires variable { k < 64 }
+    requires bit { j < 128 }
+    ensures value { result ≡ record { node = 1 + 128 * k + j; sign = false } }
+    ensures stands { (m : Meaning) → Stands m result (input false k j) }
+{
+    Lit23::new(1 + 128 * u32::from(k) + u32::from(j), false)
 }

@@ -1,7 +1,7 @@
 //! Gate words, keys and simple conjunctions: what every builder computes alike.
 
-ghost use Rattle.std.specs.Prelude.{◌≡◌, ◌≤◌, ◌<◌, ◌+◌, ◌*◌};
-ghost use Rattle.gate_shape.specs.Literal.{literal_number};
+ghost use Rattle.std.specs.Prelude.{◌≡◌, ◌≤◌, ◌<◌, ◌+◌, ◌*◌, ℕ};
+ghost use Rattle.gate_shape.specs.Literal.{Literal, literal_number};
 ghost use Rattle.gate_shape.specs.Word.{gate_word, key_of, simple_literal};
 
 use crate::lit::Lit23;
@@ -15,6 +15,22 @@ pub fn pack(level: u32, left: Lit23, right: Lit23) -> u64
     (u64::from(level) * 0x400000 * 0x1000000)
         + u64::from(left.bits()) * 0x800000
         + u64::from(right.bits())
+}
+
+/// The level, the left fanin and the right fanin of a gate word: reads back what `pack` writes.
+pub fn unpack(word: u64) -> (u32, Lit23, Lit23)
+    requires { 70368744177664 ≤ word }
+    ensures word { word ≡ gate_word result.0 result.1 result.2 }
+    ensures level { (1 ≤ result.0) × (result.0 ≤ 262143) }
+    ensures packed { (level : ℕ) (left right : Literal) → left.node < 4194304 → right.node < 4194304 → word ≡ gate_word level left right → result ≡ (level, left, right) }
+{
+    let left = word / 0x800000 % 0x800000;
+    let right = word % 0x800000;
+    (
+        (word / 0x400000000000) as u32,
+        Lit23::from_bits(left as u32),
+        Lit23::from_bits(right as u32),
+    )
 }
 
 /// The key by which the fanins of a gate are ordered.
