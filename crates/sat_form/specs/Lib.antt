@@ -1,0 +1,7 @@
+pub mod Literals
+pub mod Assignment
+pub mod Truth
+pub mod Shape
+pub mod Log
+pub mod Dimacs
+pub mod Flat
