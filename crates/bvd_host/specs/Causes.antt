@@ -8,17 +8,25 @@ use Rattle.bvd_host.specs.declared.keeper.KeepStop.TheVariants.{Absent, Failed}
 abbrev pub Rose : ℕ → ℕ → Type 0
 Rose before now = min (before + 1) (2 ^ 64 - 1) ≤ now
 
--- no count falls; `Failed` comes only where the count of faults rose, and `Absent` leaves that count
-pub record KeeperCauses {T : Type 0} (faults_before faults_now missing_before missing_now : ℕ) (result : Result T KeepStop) : Type 0 where
+-- no count falls; the first error comes only where the count of faults rose, and the second one leaves that count
+pub record HasCauses {T E : Type 0} (failure absence : E) (faults_before faults_now missing_before missing_now : ℕ) (result : Result T E) : Type 0 where
   pub faults : faults_before ≤ faults_now
   pub missing : missing_before ≤ missing_now
-  pub failed : IsErrOf result Failed → Rose faults_before faults_now
-  pub absent : IsErrOf result Absent → faults_now ≡ faults_before
+  pub failed : IsErrOf result failure → Rose faults_before faults_now
+  pub absent : IsErrOf result absence → faults_now ≡ faults_before
 
--- `Absent` comes, where the files are told, exactly where the name isn't there and the call doesn't fail; else only where `untold` holds
+-- no count falls; `Failed` comes only where the count of faults rose, and `Absent` leaves that count
+abbrev pub KeeperCauses : {T : Type 0} → (faults_before faults_now missing_before missing_now : ℕ) → Result T KeepStop → Type 0
+KeeperCauses faults_before faults_now missing_before missing_now result = HasCauses Failed Absent faults_before faults_now missing_before missing_now result
+
+-- this error comes, where the files are told, exactly where the name isn't there and the call isn't refused for another cause; else only where `untold` holds
+abbrev pub ComesExactlyAbsent : {T E : Type 0} → E → Option Files → List ℕ → Type 0 → Result T E → Type 0
+ComesExactlyAbsent absence None name untold result = IsErrOf result absence → untold
+ComesExactlyAbsent absence (Some files) name untold result = (IsErrOf result absence → file_at files name ≡ None) × OnOk result (IsSome (file_at files name))
+
+-- the same of a keeper's `Absent`
 abbrev pub AbsentExactly : {T : Type 0} → Option Files → List ℕ → Type 0 → Result T KeepStop → Type 0
-AbsentExactly None name untold result = IsErrOf result Absent → untold
-AbsentExactly (Some files) name untold result = (IsErrOf result Absent → file_at files name ≡ None) × OnOk result (IsSome (file_at files name))
+AbsentExactly files name untold result = ComesExactlyAbsent Absent files name untold result
 
 -- no count falls, and this error comes only where the count rose
 pub record HasCause {T E : Type 0} (stop : E) (before now : ℕ) (result : Result T E) : Type 0 where

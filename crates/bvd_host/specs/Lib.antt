@@ -8,3 +8,4 @@ pub mod Failing
 pub mod Kept
 pub mod Memory
 pub mod Slices
+pub mod Devices

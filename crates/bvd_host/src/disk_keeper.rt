@@ -1,6 +1,9 @@
 //! Real files, as a keeper. It tells nothing of what they hold, since no proof can see a disk: this file and the standard
 //! output's are the whole edge at which the program trusts its surroundings.
-ghost use Rattle.std.specs.Prelude.{◌≡◌, None};
+ghost use Rattle.std.specs.Prelude.{◌≡◌, ◌≤◌, None, [], length, take, option_map, IfOk, OnOk, OnErr, IsErrOf};
+ghost use Rattle.bvd_host.specs.Files.{with_file, with_more, IsTaken};
+ghost use Rattle.bvd_host.specs.Causes.{Rose, KeeperCauses, AbsentExactly, LeavesUnlessFailed};
+ghost use Rattle.bvd_host.specs.Devices.{KeeperCounts};
 
 use crate::keeper::{KeepStop, Keeper};
 use std::fs::{File, OpenFile, OpenOptions};
@@ -51,7 +54,12 @@ impl<'a, R: Files> Keeper for DiskKeeper<'a, R> {
 
     ghost missing = { λ k. k.missing };
 
-    fn size(&mut self, name: &str) -> Result<u64, KeepStop> {
+    /// Asks the file system for the file's length.
+    fn size(&mut self, name: &str) -> Result<u64, KeepStop>
+        ensures absent { AbsentExactly None name.now (Rose (⟦<DiskKeeper<'a, R> as Keeper>⟧.missing self.old) (⟦<DiskKeeper<'a, R> as Keeper>⟧.missing self.new)) result }
+        ensures cause { KeeperCauses (⟦<DiskKeeper<'a, R> as Keeper>⟧.faults self.old) (⟦<DiskKeeper<'a, R> as Keeper>⟧.faults self.new) (⟦<DiskKeeper<'a, R> as Keeper>⟧.missing self.old) (⟦<DiskKeeper<'a, R> as Keeper>⟧.missing self.new) result }
+        ensures counts { KeeperCounts (⟦<DiskKeeper<'a, R> as Keeper>⟧.faults self.old) (⟦<DiskKeeper<'a, R> as Keeper>⟧.faults self.new) (⟦<DiskKeeper<'a, R> as Keeper>⟧.missing self.old) (⟦<DiskKeeper<'a, R> as Keeper>⟧.missing self.new) result }
+    {
         match fs::metadata(self.rt, name) {
             Ok(found) => Ok(found.len()),
             Err(e) => {
@@ -65,7 +73,15 @@ impl<'a, R: Files> Keeper for DiskKeeper<'a, R> {
         }
     }
 
-    fn read_at(&mut self, name: &str, from: u64, buf: &mut [u8]) -> Result<usize, KeepStop> {
+    /// Opens the file, goes to the offset and reads once.
+    fn read_at(&mut self, name: &str, from: u64, buf: &mut [u8]) -> Result<usize, KeepStop>
+        ensures count { IfOk result (λ n. n ≤ length buf.new) }
+        ensures absent { AbsentExactly None name.now ⊥ result }
+        ensures kept { OnOk result (⟦<DiskKeeper<'a, R> as Keeper>⟧.faults self.new ≡ ⟦<DiskKeeper<'a, R> as Keeper>⟧.faults self.old) }
+        ensures spared { LeavesUnlessFailed KeepStop.Failed (⟦<DiskKeeper<'a, R> as Keeper>⟧.faults self.old) (⟦<DiskKeeper<'a, R> as Keeper>⟧.faults self.new) result }
+        ensures cause { KeeperCauses (⟦<DiskKeeper<'a, R> as Keeper>⟧.faults self.old) (⟦<DiskKeeper<'a, R> as Keeper>⟧.faults self.new) (⟦<DiskKeeper<'a, R> as Keeper>⟧.missing self.old) (⟦<DiskKeeper<'a, R> as Keeper>⟧.missing self.new) result }
+        ensures counts { KeeperCounts (⟦<DiskKeeper<'a, R> as Keeper>⟧.faults self.old) (⟦<DiskKeeper<'a, R> as Keeper>⟧.faults self.new) (⟦<DiskKeeper<'a, R> as Keeper>⟧.missing self.old) (⟦<DiskKeeper<'a, R> as Keeper>⟧.missing self.new) result }
+    {
         match read_from(self.rt, name, from, buf) {
             Ok(count) if count <= buf.len() => Ok(count),
             _ => {
@@ -75,7 +91,14 @@ impl<'a, R: Files> Keeper for DiskKeeper<'a, R> {
         }
     }
 
-    fn create(&mut self, name: &str) -> Result<(), KeepStop> {
+    /// Makes the file, or empties it.
+    fn create(&mut self, name: &str) -> Result<(), KeepStop>
+        ensures ok { OnOk result (⟦<DiskKeeper<'a, R> as Keeper>⟧.files self.new ≡ option_map (λ f. with_file f name.now []) (⟦<DiskKeeper<'a, R> as Keeper>⟧.files self.old)) }
+        ensures err { OnErr result (⟦<DiskKeeper<'a, R> as Keeper>⟧.files self.new ≡ ⟦<DiskKeeper<'a, R> as Keeper>⟧.files self.old) }
+        ensures absent { IsErrOf result KeepStop.Absent → ⊥ }
+        ensures cause { KeeperCauses (⟦<DiskKeeper<'a, R> as Keeper>⟧.faults self.old) (⟦<DiskKeeper<'a, R> as Keeper>⟧.faults self.new) (⟦<DiskKeeper<'a, R> as Keeper>⟧.missing self.old) (⟦<DiskKeeper<'a, R> as Keeper>⟧.missing self.new) result }
+        ensures counts { KeeperCounts (⟦<DiskKeeper<'a, R> as Keeper>⟧.faults self.old) (⟦<DiskKeeper<'a, R> as Keeper>⟧.faults self.new) (⟦<DiskKeeper<'a, R> as Keeper>⟧.missing self.old) (⟦<DiskKeeper<'a, R> as Keeper>⟧.missing self.new) result }
+    {
         match fs::create(self.rt, name) {
             Ok(_) => Ok(()),
             Err(_) => {
@@ -85,7 +108,15 @@ impl<'a, R: Files> Keeper for DiskKeeper<'a, R> {
         }
     }
 
-    fn append(&mut self, name: &str, bytes: &[u8]) -> Result<usize, KeepStop> {
+    /// Opens the file and writes once at its end; takes nothing of an empty piece, and then doesn't ask for the file.
+    fn append(&mut self, name: &str, bytes: &[u8]) -> Result<usize, KeepStop>
+        ensures count { IfOk result (λ n. IsTaken n bytes.now) }
+        ensures ok { IfOk result (λ n. ⟦<DiskKeeper<'a, R> as Keeper>⟧.files self.new ≡ option_map (λ f. with_more f name.now (take n bytes.now)) (⟦<DiskKeeper<'a, R> as Keeper>⟧.files self.old)) }
+        ensures err { OnErr result (⟦<DiskKeeper<'a, R> as Keeper>⟧.files self.new ≡ ⟦<DiskKeeper<'a, R> as Keeper>⟧.files self.old) }
+        ensures absent { AbsentExactly None name.now ⊥ result }
+        ensures cause { KeeperCauses (⟦<DiskKeeper<'a, R> as Keeper>⟧.faults self.old) (⟦<DiskKeeper<'a, R> as Keeper>⟧.faults self.new) (⟦<DiskKeeper<'a, R> as Keeper>⟧.missing self.old) (⟦<DiskKeeper<'a, R> as Keeper>⟧.missing self.new) result }
+        ensures counts { KeeperCounts (⟦<DiskKeeper<'a, R> as Keeper>⟧.faults self.old) (⟦<DiskKeeper<'a, R> as Keeper>⟧.faults self.new) (⟦<DiskKeeper<'a, R> as Keeper>⟧.missing self.old) (⟦<DiskKeeper<'a, R> as Keeper>⟧.missing self.new) result }
+    {
         if bytes.is_empty() {
             return Ok(0);
         }
