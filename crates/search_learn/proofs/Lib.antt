@@ -1,0 +1,20 @@
+mod Rows
+mod Rows5
+mod Rows15
+pub mod Back
+pub mod Range
+pub mod Places
+pub mod Entries
+pub mod Decisions
+pub mod Reach
+pub mod Keeps
+pub mod Reached
+pub mod Solved
+pub mod Lubys
+pub mod Ordered
+pub mod Cutting
+pub mod Cases
+pub mod Lessons
+pub mod Hints
+pub mod Counted
+pub mod Runs

@@ -1,0 +1,9 @@
+pub mod Luby
+pub mod Trail
+pub mod Analysis
+pub mod Machine
+pub mod Rule
+pub mod Engine
+pub mod Cases
+pub mod Values
+pub mod Laws
