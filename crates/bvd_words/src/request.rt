@@ -1,0 +1,123 @@
+//! What the words of the command line ask for: the commands, their tables of options, and the request that words make.
+ghost use Rattle.std.specs.Prelude.{◌≡◌, ◌≤◌, option_map, map, string_bytes, length, IfOk, IfSome};
+ghost use Rattle.bvd_words.specs.Words as spec;
+ghost use Rattle.bvd_words.specs.Requests.{command_of, options_of, most_files, is_formed, request_from, request_of};
+ghost use Rattle.bvd_words.specs.Shown.{table, items_shown};
+ghost use Rattle.bvd_words.specs.Asked.{command_shown, request_shown};
+
+use crate::items::{files_of, has_flag, is_each_once, number_or, text_of};
+use crate::reader::{CommandOption, Item, Kind, cut};
+use std::alloc::{AllocError, Global};
+
+/// A command of the program.
+#[derive(Clone, Copy)]
+pub enum Command {
+    Prove,
+    Alone,
+    Check,
+    Cnf,
+}
+
+/// What is asked for: the command, the step budget of each goal, whether the report leaves out the lines of goals, and the files in order.
+#[derive(Drop)]
+pub struct Request<'a> {
+    pub command: Command,
+    pub steps: u64,
+    pub quiet: bool,
+    pub files: Vec<&'a str>,
+}
+
+/// The command of a word.
+pub fn command_of(word: &str) -> Option<Command>
+    ensures { option_map command_shown result ≡ command_of word.now }
+{
+    if word == "prove" {
+        Some(Command::Prove)
+    } else if word == "alone" {
+        Some(Command::Alone)
+    } else if word == "check" {
+        Some(Command::Check)
+    } else if word == "cnf" {
+        Some(Command::Cnf)
+    } else {
+        None
+    }
+}
+
+/// The options of commands that solve.
+static SOLVING: [CommandOption<'static>; 2] = [
+    CommandOption {
+        name: "steps",
+        kind: Kind::Number {
+            least: 1,
+            most: 1_000_000_000,
+        },
+    },
+    CommandOption {
+        name: "quiet",
+        kind: Kind::Switch,
+    },
+];
+
+/// The options of a command.
+pub fn options_of(command: Command) -> &'static [CommandOption<'static>]
+    ensures { table result.now ≡ options_of (command_shown command) }
+{
+    match command {
+        Command::Prove | Command::Alone => &SOLVING,
+        Command::Check | Command::Cnf => &[],
+    }
+}
+
+/// How many files a command takes at most; each takes at least one.
+pub fn most_files(command: Command) -> usize
+    ensures value { result ≡ most_files (command_shown command) }
+    ensures few { result ≤ 64 }
+{
+    match command {
+        Command::Cnf => 1,
+        _ => 64,
+    }
+}
+
+/// The request that items make.
+fn request_from<'a>(
+    alloc: Global,
+    command: Command,
+    items: &[Item<'a>],
+) -> Result<Option<Request<'a>>, AllocError>
+    ensures request { IfOk result (λ r. option_map request_shown r ≡ request_from (command_shown command) (items_shown items.now)) }
+    ensures few { IfOk result (λ r. IfSome r (λ request. length request.files.items ≤ 64)) }
+{
+    let files = files_of(alloc, items)?;
+    if !is_each_once(items) || files.is_empty() || files.len() > most_files(command) {
+        return Ok(None);
+    }
+    match number_or(10_000_000, 1, 1_000_000_000, text_of(items, "steps")) {
+        Some(steps) => Ok(Some(Request {
+            command,
+            steps,
+            quiet: has_flag(items, "quiet"),
+            files,
+        })),
+        None => Ok(None),
+    }
+}
+
+/// Reads the words of the command line, the first of which is the command; None exactly where they are refused.
+/// Errors: want of memory alone. Cost: linear in the words' bytes.
+pub fn read_words<'a>(alloc: Global, words: &'a [String]) -> Result<Option<Request<'a>>, AllocError>
+    ensures request { IfOk result (λ r. option_map request_shown r ≡ request_of (map string_bytes words.now)) }
+    ensures few { IfOk result (λ r. IfSome r (λ request. length request.files.items ≤ 64)) }
+{
+    let [word, rest @ ..] = words else {
+        return Ok(None);
+    };
+    let Some(command) = command_of(word.as_str()) else {
+        return Ok(None);
+    };
+    match cut(alloc, options_of(command), rest)? {
+        Some(items) => request_from(alloc, command, &items),
+        None => Ok(None),
+    }
+}
