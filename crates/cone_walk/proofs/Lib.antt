@@ -1,0 +1,4 @@
+pub mod Trees
+pub mod Numberings
+pub mod Steps
+pub mod Asking
