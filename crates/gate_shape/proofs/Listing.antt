@@ -365,12 +365,15 @@ simple-known m a b s e ka kb = go (same_literal a false_literal || same_literal 
     go false false true e = let P : Literal → Type 0 = λ z. Known m z in subst P (some_same e) ka
     go false false false e = cc
 
+pub one_each : (limit : ℕ) (pairs : List (Literal × Literal)) (levels : List ℕ) → IsListed limit pairs levels → OneEach (holding limit (gates_of pairs))
+one_each limit pairs levels is = edge_once limit (gates_of pairs) (λ i j x y e. is.once i j (rw (length-gates_of pairs) at x) (rw (length-gates_of pairs) at y) e)
+
 module _ (limit : ℕ) (pairs : List (Literal × Literal)) (levels : List ℕ) (is : IsListed limit pairs levels) (a b : Literal) (ka : Known (holding limit (gates_of pairs)) a) (kb : Known (holding limit (gates_of pairs)) b) where
   abbrev all : Meaning
   all = holding limit (gates_of pairs)
 
   simplified_as : simplified (edge all a) (edge all b) ≡ option_map (edge all) (simple_literal a b)
-  simplified_as = simple_once limit (gates_of pairs) (λ i j x y e. is.once i j (rw (length-gates_of pairs) at x) (rw (length-gates_of pairs) at y) e) a b ka kb
+  simplified_as = simple_once (holding limit (gates_of pairs)) (one_each limit pairs levels is) a b ka kb
 
   pub and_simple : (s : Literal) → simple_literal a b ≡ Some s → Builds note_new Stands all all (Ok s) (both (edge all a) (edge all b))
   unfolding both
@@ -412,9 +415,6 @@ module _ (limit : ℕ) (pairs : List (Literal × Literal)) (levels : List ℕ) (
     keeps = keeps_self all;
     outcome = refused_one all (ordered (edge all a) (edge all b)) TooDeep limit (gates_of pairs) (level_of_ordered ∙ d);
   }
-
-pub one_each : (limit : ℕ) (pairs : List (Literal × Literal)) (levels : List ℕ) → IsListed limit pairs levels → OneEach (holding limit (gates_of pairs))
-one_each limit pairs levels is = edge_once limit (gates_of pairs) (λ i j x y e. is.once i j (rw (length-gates_of pairs) at x) (rw (length-gates_of pairs) at y) e)
 
 -- what is kept of the pair at a place
 pub pair_at : (limit : ℕ) (pairs : List (Literal × Literal)) (levels : List ℕ) → IsListed limit pairs levels → (i : ℕ) → i < length pairs → (p : Literal × Literal) → slice_index_or pairs i p ≡ p → (Known (holding limit (gates_of pairs)) p.0 × Known (holding limit (gates_of pairs)) p.1) × ((holding limit (gates_of pairs)).gate_at i ≡ record { left = edge (holding limit (gates_of pairs)) p.0; right = edge (holding limit (gates_of pairs)) p.1 })

@@ -2,7 +2,10 @@
 
 ghost use Rattle.std.specs.Prelude.{◌≡◌, ◌≤◌, ◌<◌, ◌+◌, ◌*◌, ℕ};
 ghost use Rattle.gate_shape.specs.Literal.{Literal, literal_number};
+ghost use Rattle.std.specs.Option.{option_map};
 ghost use Rattle.gate_shape.specs.Word.{gate_word, key_of, simple_literal};
+ghost use Rattle.gate_shape.specs.Edge.{simplified};
+ghost use Rattle.gate_shape.specs.Builds.{Meaning, Known, OneEach, edge};
 
 use crate::lit::Lit23;
 
@@ -40,9 +43,9 @@ pub fn key(lit: Lit23, level: u32) -> (u32, u32)
     (level, if level == 0 { lit.node() } else { 0 })
 }
 
-/// The conjunction where it is simple.
+/// The conjunction of two literals where it is simple.
 #[tactic(auto, unfolding(crate::specs::Word::simple_literal))]
-pub fn simple(a: Lit23, b: Lit23) -> Option<Lit23>
+fn simplification(a: Lit23, b: Lit23) -> Option<Lit23>
     ensures { result ≡ simple_literal a b }
 {
     let no = Lit23::new(0, false);
@@ -56,4 +59,14 @@ pub fn simple(a: Lit23, b: Lit23) -> Option<Lit23>
     } else {
         None
     }
+}
+
+/// The conjunction of two literals where it is simple, and None exactly where it isn't: false where
+/// either is false or one negates the other, the other one where one is true, `a` where they are
+/// equal. Literals of one builder simplify exactly where their edges do. O(1).
+pub fn simple(a: Lit23, b: Lit23) -> Option<Lit23>
+    ensures literals { result ≡ simple_literal a b }
+    ensures edges { (m : Meaning) → OneEach m → Known m a → Known m b → simplified (edge m a) (edge m b) ≡ option_map (edge m) result }
+{
+    simplification(a, b)
 }

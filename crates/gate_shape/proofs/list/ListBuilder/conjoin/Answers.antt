@@ -10,7 +10,7 @@ pub returns-in-Some : goal.returns-in-Some
 returns-in-Some c =
     let ka : Known (listed _) c.args.a = rw (sym c.self.view_is) at c.requires.left in
     let kb : Known (listed _) c.args.b = rw (sym c.self.view_is) at c.requires.right in
-    let e = sym c.simple.ensures ∙ c.in-Some.is in
+    let e = sym c.simple.ensures.literals ∙ c.in-Some.is in
     rw (sym c.self.view_is) (conjoined_simple _ _ _ (and_simple_none _ _ _ c.self.invariant c.args.a c.args.b ka kb c.in-Some.answer e) (and_simple _ _ _ c.self.invariant c.args.a c.args.b ka kb c.in-Some.answer e))
 
 pub returns-then-level-eq262144 : goal.returns-then-level-eq262144
@@ -20,7 +20,7 @@ returns-then-level-eq262144 c =
     let x = rw (sym c.self.view_is) at c.level-first.ensures.value in
     let y = rw (sym c.self.view_is) at c.level-second.ensures.value in
     let d = rw (c.max-level.ensures, x, y) at c.if-level-eq262144.true in
-    let e = sym c.simple.ensures ∙ c.in-None.is in
+    let e = sym c.simple.ensures.literals ∙ c.in-None.is in
     rw (sym c.self.view_is) (conjoined_deep _ _ _ (and_gate _ _ _ c.self.invariant c.args.a c.args.b ka kb e) (level_of_ordered _ _ _ c.self.invariant c.args.a c.args.b ka kb ∙ d) (and_deep _ _ _ c.self.invariant c.args.a c.args.b ka kb e d))
 
 pub place-requires-clause-level_right : goal.place-requires-clause-level_right
@@ -42,7 +42,7 @@ returns-then-before c =
     let y = rw (sym c.self.view_is) at c.level-second.ensures.value in
     let h = rw (c.key.ensures, c.key-else-level-eq262144.ensures) at (sym c.if-before.ensures) in
     let o = ordered_swapped _ _ _ c.self.invariant c.args.a c.args.b ka kb c.level-first.result c.level-second.result x y h in
-    let e = and_gate _ _ _ c.self.invariant c.args.a c.args.b ka kb (sym c.simple.ensures ∙ c.in-None.is) ∙ as_row o in
+    let e = and_gate _ _ _ c.self.invariant c.args.a c.args.b ka kb (sym c.simple.ensures.literals ∙ c.in-None.is) ∙ as_row o in
     rw (sym c.self.view_is, e) (rw (sym c.self.view_is) at c.place.ensures)
 
 pub returns-else-before : goal.returns-else-before
@@ -53,5 +53,5 @@ returns-else-before c =
     let y = rw (sym c.self.view_is) at c.level-second.ensures.value in
     let h = rw (c.key.ensures, c.key-else-level-eq262144.ensures) at (sym c.if-before.ensures) in
     let o = ordered_kept _ _ _ c.self.invariant c.args.a c.args.b ka kb c.level-first.result c.level-second.result x y h in
-    let e = and_gate _ _ _ c.self.invariant c.args.a c.args.b ka kb (sym c.simple.ensures ∙ c.in-None.is) ∙ as_row o in
+    let e = and_gate _ _ _ c.self.invariant c.args.a c.args.b ka kb (sym c.simple.ensures.literals ∙ c.in-None.is) ∙ as_row o in
     rw (sym c.self.view_is, e) (rw (sym c.self.view_is) at c.place-else-before.ensures)
