@@ -1,0 +1,4 @@
+pub mod Statement
+pub mod Lines
+pub mod Closed
+pub mod Progress
