@@ -1,0 +1,77 @@
+-- How a run ends, by the order of its steps: the words, the files, the certificates, the report.
+use Rattle.std.specs.Prelude.{◌≡◌, ◌⊎◌, ℕ, List, [], ◌++◌, take, Option, Some, None, option_map, Result, Ok, Err}
+use Rattle.bvd_host.specs.Files.{Files}
+use Rattle.bvd_host.specs.Causes.{Rose}
+use Rattle.bvd_host.specs.Outside.{Outside, KeeperFailed, SinkFailed}
+use Rattle.bvd_top.specs.declared.stop.Stop.{Stop}
+use Rattle.bvd_top.specs.declared.stop.Stop.TheVariants.{Device, Memory}
+use Rattle.bvd_words.specs.Requests.{Request}
+use Rattle.bvd_top.specs.Words.{request_of, usage}
+use Rattle.bvd_top.specs.Report.{Part, report, certificates, with_all, status_of}
+use Rattle.bvd_top.specs.Storing.{IsPartlyStored}
+use Rattle.bvd_top.specs.Parts.{ArePartsOf}
+
+-- the run stops early: a device failed, or memory was wanting
+abbrev pub Stops : Type 0 → ℕ → Type 0
+Stops failed status = ((status ≡ 6) × failed) ⊎ (status ≡ 7)
+
+-- a text is written whole and the run ends with its own status, or a beginning of the text is written and the run stops
+abbrev pub Tells : List ℕ → ℕ → Outside → Outside → ℕ → Type 0
+Tells text own before after status =
+    ((after.written ≡ option_map (λ w. w ++ text) before.written) × (status ≡ own))
+    ⊎ ((n : ℕ) × (after.written ≡ option_map (λ w. w ++ take n text) before.written) × Stops (SinkFailed before after) status)
+
+-- a file isn't read to its end
+pub record Unread (before after : Outside) (status : ℕ) : Type 0 where
+  pub files_stay : after.files ≡ before.files
+  pub nothing_told : after.written ≡ before.written
+  pub stops : Stops (KeeperFailed before after) status
+
+-- a certificate isn't written to its end; those before it are, and those behind it aren't begun
+pub record Unstored (request : Request) (before after : Outside) (status : ℕ) : Type 0 where
+  pub parts : List Part
+  pub found : ArePartsOf before.files (Rose before.missing after.missing) request.files parts
+  pub stored : (after.files ≡ before.files) ⊎ IsPartlyStored (certificates parts) before.files after.files
+  pub nothing_told : after.written ≡ before.written
+  pub stops : Stops (KeeperFailed before after) status
+
+-- all certificates are written, and the report or a beginning of it
+pub record Reported (request : Request) (before after : Outside) (status : ℕ) : Type 0 where
+  pub parts : List Part
+  pub found : ArePartsOf before.files (Rose before.missing after.missing) request.files parts
+  pub stored : after.files ≡ option_map (with_all (certificates parts)) before.files
+  pub tells : Tells (report request parts) (status_of parts) before after status
+
+-- how the run of a request ends
+abbrev pub Answered : Request → Outside → Outside → ℕ → Type 0
+Answered request before after status = Unread before after status ⊎ (Unstored request before after status ⊎ Reported request before after status)
+
+-- the words are refused, and nothing is read
+pub record Refused (before after : Outside) (status : ℕ) : Type 0 where
+  pub files_stay : after.files ≡ before.files
+  pub tells : Tells usage 2 before after status
+
+abbrev pub AnsweredIf : Option Request → Outside → Outside → ℕ → Type 0
+AnsweredIf None before after status = Refused before after status
+AnsweredIf (Some request) before after status = Answered request before after status
+
+-- how a run ends
+abbrev pub Ending : List (List ℕ) → Outside → Outside → ℕ → Type 0
+Ending words before after status = AnsweredIf (request_of words) before after status
+
+abbrev pub status_in : Result ℕ Stop → ℕ
+status_in (Ok status) = status
+status_in (Err Device) = 6
+status_in (Err Memory) = 7
+
+-- the run is done, over these files and behind this text
+pub record IsDone (report_is : List ℕ) (all : List (List ℕ × List ℕ)) (own : ℕ) (files : Files) (text : List ℕ) (after : Outside) (status : ℕ) : Type 0 where
+  pub told : after.written ≡ Some (text ++ report_is)
+  pub stored : after.files ≡ Some (with_all all files)
+  pub answered : status ≡ own
+
+-- the usage for words that are refused; else the report, the certificates and the status of what became of the request's files
+abbrev pub Does : Option Request → Files → List ℕ → Outside → ℕ → Type 0
+Does None files text after status = IsDone usage [] 2 files text after status
+Does (Some request) files text after status = (parts : List Part) × ArePartsOf (Some files) ⊥ request.files parts
+    × IsDone (report request parts) (certificates parts) (status_of parts) files text after status

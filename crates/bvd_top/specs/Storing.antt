@@ -1,0 +1,19 @@
+-- What is left of files that are written one after the other.
+use Rattle.std.specs.Prelude.{◌≡◌, ℕ, List, ◌∷◌, ◌++◌, Option, option_map}
+use Rattle.bvd_host.specs.Files.{Files}
+use Rattle.cert_store.specs.CutShort.{IsCutShort}
+use Rattle.bvd_top.specs.Report.{with_all}
+
+-- some first files of a list are written, and perhaps a beginning of the next one
+pub record IsPartlyStored (all : List (List ℕ × List ℕ)) (before after : Option Files) : Type 0 where
+  pub whole : List (List ℕ × List ℕ)
+  pub next : List ℕ × List ℕ
+  pub others : List (List ℕ × List ℕ)
+  pub parted : all ≡ whole ++ next ∷ others
+  pub files : IsCutShort next.0 next.1 (option_map (with_all whole) before) after
+
+-- the first files of a list are written, and the rest of it isn't begun
+pub record IsStoredTo (all rest : List (List ℕ × List ℕ)) (before now : Option Files) : Type 0 where
+  pub whole : List (List ℕ × List ℕ)
+  pub parted : all ≡ whole ++ rest
+  pub files : now ≡ option_map (with_all whole) before
