@@ -1,0 +1,4 @@
+pub mod Places
+pub mod Text
+pub mod Stands
+pub mod Numbers
