@@ -11,4 +11,6 @@ pub mod sink;
 pub mod slice_source;
 pub mod source;
 pub mod stdout_sink;
+#[cfg(test)]
+mod tests;
 pub mod vec_sink;

@@ -4,3 +4,5 @@
 pub mod fetching;
 pub mod putting;
 pub mod stop;
+#[cfg(test)]
+mod tests;

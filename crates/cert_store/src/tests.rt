@@ -1,0 +1,59 @@
+//! Each call once with ample memory, and a write that fails in the middle.
+use crate::fetching::fetch;
+use crate::putting::put;
+use crate::stop::StoreStop;
+use bvd_host::keeper::Keeper;
+use bvd_host::map_keeper::MapKeeper;
+use bvd_host::source::Source;
+use std::alloc::{AllocError, Global};
+use std::collections::BTreeMap;
+use std::test::Fail;
+
+/// A keeper of one file `a`, one of whose writes fails.
+fn keeper_of(alloc: Global, call: u64) -> Result<MapKeeper, AllocError> {
+    let mut files = BTreeMap::new(alloc);
+    files.insert(String::from_str(alloc, "a")?, b"older".to_vec(alloc)?)?;
+    Ok(MapKeeper::new(alloc, files, Vec::new(alloc), vec![in alloc; call]?))
+}
+
+/// How many bytes the file under a name gives, 9 where it isn't opened.
+fn count_of<K: Keeper>(keeper: &mut K, name: &str, piece: &mut [u8]) -> usize {
+    match fetch(keeper, name) {
+        Ok(file) => {
+            let mut file = file;
+            file.read(piece).unwrap_or(8)
+        }
+        Err(StoreStop::Absent) => 9,
+        Err(_) => 10,
+    }
+}
+
+#[test]
+fn what_is_put_is_fetched(rt: HostRuntime) -> Result<(), Fail> {
+    let table = [
+        (0, true, 3, *b"new\0\0\0"),
+        (1, false, 5, *b"older\0"),
+        (2, false, 0, *b"\0\0\0\0\0\0"),
+    ];
+    for (call, whole, count, bytes) in table {
+        let mut keeper = keeper_of(rt.alloc(), call)?;
+        assert_eq!(rt;
+            put(&mut keeper, "a", b"new").is_ok(),
+            whole,
+            "write {call} failing"
+        );
+        let mut piece = [0u8; 6];
+        assert_eq!(rt;
+            count_of(&mut keeper, "a", &mut piece),
+            count,
+            "write {call} failing"
+        );
+        assert_eq!(rt; piece, bytes, "write {call} failing");
+        assert_eq!(rt;
+            count_of(&mut keeper, "b", &mut piece),
+            9,
+            "write {call} failing"
+        );
+    }
+    Ok(())
+}
