@@ -14,3 +14,6 @@ pub use goal::{Goal, Name};
 pub use meaning::eval;
 pub use ops::{Binary, Sort, Unary, Val};
 pub use shape::{Shape, binary_node, shape_of, unary_node};
+
+#[cfg(test)]
+mod tests;
