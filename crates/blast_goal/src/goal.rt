@@ -1,0 +1,60 @@
+//! A goal's edge: all hypotheses, and not the conclusion.
+
+ghost use Rattle.std.specs.Prelude.{◌↔◌, IsTrue, IfOk, List};
+ghost use Rattle.gate_shape.specs.Edge.{value};
+ghost use Rattle.gate_shape.specs.Builds.{Known, edge as edge_of, Builds, Stands};
+ghost use Rattle.bv_expr.specs.declared.ops.Val.{Val};
+ghost use Rattle.bv_expr.specs.Goal.{AreValues, Falsifies};
+ghost use Rattle.blast_goal.specs.Circuit.{and_hypothesis, all_hypotheses, and_not_conclusion, goal_row};
+ghost use Rattle.blast_goal.specs.Propositional.{IsPropositional};
+ghost use Rattle.blast_goal.specs.Values.{bits_of};
+
+use crate::truth::truth;
+use bv_expr::{Expr, Goal};
+use gate_shape::{Builder, GateStop, Lit23};
+use std::alloc::Global;
+
+/// The conjunction of an edge and the circuit of a hypothesis.
+fn with_hypothesis<B: Builder>(b: &mut B, e: Lit23, hyp: &Expr) -> Result<Lit23, GateStop>
+    requires { Known (B.meaning b.old) e }
+    ensures { let m = B.meaning b.old in Builds B.noted Stands m (B.meaning b.new) result (and_hypothesis (edge_of m e) hyp.now) }
+{
+    let c = truth(b, hyp)?;
+    b.and(e, c)
+}
+
+/// The conjunction of an edge and the negated circuit of a conclusion.
+fn without_conclusion<B: Builder>(b: &mut B, e: Lit23, concl: &Expr) -> Result<Lit23, GateStop>
+    requires { Known (B.meaning b.old) e }
+    ensures { let m = B.meaning b.old in Builds B.noted Stands m (B.meaning b.new) result (and_not_conclusion (edge_of m e) concl.now) }
+{
+    let c = truth(b, concl)?;
+    b.and(e, c.not())
+}
+
+/// The edge of all hypotheses.
+fn hypotheses<B: Builder>(b: &mut B, hyps: &[Expr]) -> Result<Lit23, GateStop>
+    ensures { Builds B.noted Stands (B.meaning b.old) (B.meaning b.new) result (all_hypotheses hyps.now) }
+{
+    let mut e = Lit23::new(0, true);
+    for hyp in hyps {
+        e = with_hypothesis(b, e, hyp)?;
+    }
+    Ok(e)
+}
+
+/// The goal's edge, which is true exactly for the values that falsify the goal: e is true; for each hypothesis e is
+/// the conjunction of e and its circuit; the edge is the conjunction of e and the negated circuit of the conclusion.
+///
+/// The goal has truths and `!`, `&&`, `||`, `^^` and `=` between truths alone; others have no circuit here yet, and
+/// `_alloc` is for those. Where it answers Ok, the builder knows each gate of the row, noted in order. `Deep` and
+/// `Full` are the answers of the builder at one of these gates, those before it being known and noted. Literals
+/// known before keep their edges. Takes a call of the builder for each gate.
+pub fn edge<B: Builder>(_alloc: Global, b: &mut B, goal: &Goal) -> Result<Lit23, GateStop>
+    requires { IsPropositional goal.now.hyps goal.now.concl }
+    ensures built { Builds B.noted Stands (B.meaning b.old) (B.meaning b.new) result (goal_row goal.now.hyps goal.now.concl) }
+    ensures value { IfOk result (λ l. (values : List Val) → AreValues goal.now.binders values → IsTrue (value (bits_of values) (edge_of (B.meaning b.new) l)) ↔ Falsifies goal.now.hyps goal.now.concl values) }
+{
+    let e = hypotheses(b, goal.hyps.as_slice())?;
+    without_conclusion(b, e, &goal.concl)
+}
