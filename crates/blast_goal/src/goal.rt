@@ -1,8 +1,8 @@
 //! A goal's edge: all hypotheses, and not the conclusion.
 
-ghost use Rattle.std.specs.Prelude.{◌↔◌, IsTrue, IfOk, List};
+ghost use Rattle.std.specs.Prelude.{◌↔◌, IsTrue, IfOk, OnOk, List};
 ghost use Rattle.gate_shape.specs.Edge.{value};
-ghost use Rattle.gate_shape.specs.Builds.{Known, edge as edge_of, Builds, Stands};
+ghost use Rattle.gate_shape.specs.Builds.{Known, edge as edge_of, Builds, OneEach, Stands};
 ghost use Rattle.bv_expr.specs.declared.ops.Val.{Val};
 ghost use Rattle.bv_expr.specs.Goal.{AreValues, Falsifies};
 ghost use Rattle.blast_goal.specs.Circuit.{and_hypothesis, all_hypotheses, and_not_conclusion, goal_row};
@@ -26,7 +26,8 @@ fn with_hypothesis<B: Builder>(b: &mut B, e: Lit23, hyp: &Expr) -> Result<Lit23,
 /// The conjunction of an edge and the negated circuit of a conclusion.
 fn without_conclusion<B: Builder>(b: &mut B, e: Lit23, concl: &Expr) -> Result<Lit23, GateStop>
     requires { Known (B.meaning b.old) e }
-    ensures { let m = B.meaning b.old in Builds B.noted Stands m (B.meaning b.new) result (and_not_conclusion (edge_of m e) concl.now) }
+    ensures built { let m = B.meaning b.old in Builds B.noted Stands m (B.meaning b.new) result (and_not_conclusion (edge_of m e) concl.now) }
+    ensures once { OnOk result (OneEach (B.meaning b.new)) }
 {
     let c = truth(b, concl)?;
     b.and(e, c.not())
@@ -49,10 +50,11 @@ fn hypotheses<B: Builder>(b: &mut B, hyps: &[Expr]) -> Result<Lit23, GateStop>
 /// The goal has truths and `!`, `&&`, `||`, `^^` and `=` between truths alone; others have no circuit here yet, and
 /// `_alloc` is for those. Where it answers Ok, the builder knows each gate of the row, noted in order. `Deep` and
 /// `Full` are the answers of the builder at one of these gates, those before it being known and noted. Literals
-/// known before keep their edges. Takes a call of the builder for each gate.
+/// known before keep their edges, and equal edges have equal literals. Takes a call of the builder for each gate.
 pub fn edge<B: Builder>(_alloc: Global, b: &mut B, goal: &Goal) -> Result<Lit23, GateStop>
     requires { IsPropositional goal.now.hyps goal.now.concl }
     ensures built { Builds B.noted Stands (B.meaning b.old) (B.meaning b.new) result (goal_row goal.now.hyps goal.now.concl) }
+    ensures once { OnOk result (OneEach (B.meaning b.new)) }
     ensures value { IfOk result (λ l. (values : List Val) → AreValues goal.now.binders values → IsTrue (value (bits_of values) (edge_of (B.meaning b.new) l)) ↔ Falsifies goal.now.hyps goal.now.concl values) }
 {
     let e = hypotheses(b, goal.hyps.as_slice())?;

@@ -19,7 +19,7 @@ pub returns-clause-built : goal.returns-clause-built
 unfolding goal_row
 returns-clause-built g c =
     let p = rw c.as_slice.ensures at c.in_ok-e.ensures in
-    builds_then _ p (builds_at_one (λ e. and_not_conclusion e c.args.goal.now.concl) (stands_answer p) c.without_conclusion.ensures)
+    builds_then _ p (builds_at_one (λ e. and_not_conclusion e c.args.goal.now.concl) (stands_answer p) c.without_conclusion.ensures.built)
 
 pub returns-clause-value : goal.returns-clause-value
 returns-clause-value g c =
