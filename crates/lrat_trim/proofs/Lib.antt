@@ -1,0 +1,5 @@
+pub mod Pushed
+pub mod Marking
+pub mod Marked
+pub mod Positions
+pub mod Derived

@@ -1,0 +1,10 @@
+use Rattle.std.proofs.Common.{◌≡◌, true, take}
+use Rattle.std.specs.List.{list_all}
+use Rattle.lrat_lines.specs.Lines.{is_literal}
+use Rattle.lrat_trim.proofs.renumber.copied_literals.Given as goal
+
+abbrev pub invariant-loop-lit : goal.invariant-loop-lit
+invariant-loop-lit l = record {
+  same : l.copy.items ≡ take l.lit-index l.lits;
+  range : list_all is_literal l.copy.items ≡ true;
+}

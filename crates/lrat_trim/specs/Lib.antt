@@ -1,0 +1,4 @@
+pub mod Trim
+pub mod Derivation
+pub mod Marks
+pub mod Derived

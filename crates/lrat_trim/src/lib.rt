@@ -1,0 +1,93 @@
+//! The log of a search, and its trimming: a certificate needs only the lines that the empty clause reaches through
+//! hints, and LRAT wants them numbered without gaps.
+#![tactic(auto)]
+
+ghost use Rattle.std.specs.Prelude.{◌++◌, ◌+◌, ◌<◌, ◌^◌, ◌∷◌, ◌≡◌, [], true, length, map, IfOk, OnErr};
+ghost use Rattle.std.specs.List.{list_all};
+ghost use Rattle.lrat_lines.specs.Lines.{is_writable};
+ghost use Rattle.lrat_lines.specs.Seen.{seen};
+ghost use Rattle.lrat_trim.specs.Derivation.{IsFinished, are_earlier, next_id};
+ghost use Rattle.lrat_trim.specs.Trim.{trim};
+
+mod laws;
+mod needed;
+mod renumber;
+
+pub use laws::trimmed_check;
+use lrat_lines::Line;
+use sat_form::Lit;
+use std::alloc::{AllocError, Global};
+use std::marker::Model;
+
+/// A learnt clause and its hints.
+#[derive(Drop, Debug)]
+struct LogLine {
+    lits: Vec<Lit>,
+    hints: Vec<u64>,
+}
+
+/// What a search learnt, in order: clauses with the ids of those that they follow from. The given clauses have the ids
+/// 1 to `inputs`, and the lines the ids behind them.
+#[derive(Drop)]
+pub struct Log {
+    alloc: Global,
+    inputs: u64,
+    lines: Vec<LogLine>,
+}
+
+impl Model for Log {
+    ghost use Rattle.std.specs.Prelude.{◌+◌};
+    ghost use Rattle.lrat_trim.specs.Derivation.{Derivation, IsLog, logged_from};
+
+    ghost Value = { Derivation };
+
+    ghost view = { λ l. record { inputs = l.inputs; lines = logged_from (l.inputs + 1) l.lines.items } };
+
+    ghost invariant = { λ l. IsLog l.inputs l.lines.items };
+}
+
+impl Log {
+    /// An empty log over so many given clauses. O(1), and it takes no memory.
+    pub fn new(alloc: Global, inputs: u64) -> Log
+        requires { inputs < 2 ^ 62 }
+        ensures { result ≡ record { inputs = inputs; lines = [] } }
+    {
+        Log {
+            alloc,
+            inputs,
+            lines: Vec::new(alloc),
+        }
+    }
+
+    /// Adds a line, and answers its id. After a refusal for want of memory the log is unchanged.
+    /// O(number of literals and hints), amortised.
+    pub fn push(&mut self, lits: &[Lit], hints: &[u64]) -> Result<u64, AllocError>
+        requires room { length self.old.lines < 2 ^ 62 }
+        requires earlier { are_earlier (next_id self.old) hints.now ≡ true }
+        ensures id { IfOk result (λ id. id ≡ next_id self.old) }
+        ensures line { IfOk result (λ id. self.new ≡ record self.old { lines = self.old.lines ++ record { id = id; lits = lits.now; hints = hints.now } ∷ [] }) }
+        ensures err { OnErr result (self.new ≡ self.old) }
+    {
+        let id = self.inputs + self.lines.len() as u64 + 1;
+        let line = LogLine {
+            lits: Vec::from_slice(self.alloc, lits)?,
+            hints: Vec::from_slice(self.alloc, hints)?,
+        };
+        self.lines.push(line)?;
+        Ok(id)
+    }
+
+    /// The lines that the empty clause reaches through hints, in their order, numbered behind the given clauses without
+    /// a gap; each may be written. The only error is want of memory.
+    ///
+    /// One pass back over the lines marks those that are needed, and one pass on copies them:
+    /// O(number of lines, of literals and of hints).
+    pub fn trim(&self) -> Result<Vec<Line>, AllocError>
+        requires { IsFinished self.now.lines }
+        ensures lines { IfOk result (λ lines. map seen lines.items ≡ trim self.now.inputs self.now.lines) }
+        ensures writable { IfOk result (λ lines. list_all is_writable (map seen lines.items) ≡ true) }
+    {
+        let marks = needed::marks(self.alloc, self.inputs, &self.lines)?;
+        renumber::marked_lines(self.alloc, self.inputs, &self.lines, &marks)
+    }
+}
