@@ -1,0 +1,15 @@
+use Rattle.std.proofs.Common.{◌≡◌, ℕ, ◌+◌, length}
+use Rattle.gate_shape.specs.Listed.{listed}
+use Rattle.cone_walk.specs.Walk.{Follows, Replies, root_of, was_asked}
+use Rattle.goal_formula.specs.Unasked.{unasked}
+use Rattle.goal_formula.proofs.cone.cone_of.Given as goal
+
+abbrev pub invariant-asks : goal.invariant-asks
+invariant-asks l = record {
+  root : root_of l.walk ≡ l.fn.root;
+  follows : Follows (listed l.gates) l.walk;
+  replies : Replies (listed l.gates) l.walk l.fanins;
+}
+
+abbrev pub decreases-asks : goal.decreases-asks
+decreases-asks l = unasked (λ s. was_asked l.walk (8193 + s)) (length (listed l.gates).trace)

@@ -1,0 +1,3 @@
+pub mod Ends
+pub mod Formula
+pub mod Unasked
