@@ -1,0 +1,5 @@
+pub mod Follows
+pub mod Lesson
+pub mod Finished
+pub mod Going
+pub mod Derives
