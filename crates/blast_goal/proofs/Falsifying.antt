@@ -19,7 +19,7 @@ use Rattle.bv_expr.specs.Meaning.{meaning, is_true, unary_value, binary_value, H
 use Rattle.bv_expr.specs.Goal.{Binders, AreValues, IsGoal, MeansTrue, Falsifies}
 use Rattle.bv_expr.proofs.Over.{means_truth, truth_at}
 use Rattle.blast_goal.specs.Circuit.{unary_row, binary_row, circuit, and_hypothesis, all_hypotheses, and_not_conclusion, goal_row}
-use Rattle.blast_goal.specs.Propositional.{is_not, is_connective, is_propositional, IsPropositional}
+use Rattle.bv_expr.specs.Propositional.{is_not, is_connective, is_propositional, IsPropositional}
 use Rattle.blast_goal.specs.Values.{bit_of, bits_of}
 
 both_true : (a b : Bool) → a && b ≡ true → (a ≡ true) × (b ≡ true)

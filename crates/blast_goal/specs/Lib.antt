@@ -1,3 +1,2 @@
 pub mod Circuit
-pub mod Propositional
 pub mod Values

@@ -6,7 +6,7 @@ ghost use Rattle.gate_shape.specs.Builds.{Known, edge as edge_of, Builds, OneEac
 ghost use Rattle.bv_expr.specs.declared.ops.Val.{Val};
 ghost use Rattle.bv_expr.specs.Goal.{AreValues, Falsifies};
 ghost use Rattle.blast_goal.specs.Circuit.{and_hypothesis, all_hypotheses, and_not_conclusion, goal_row};
-ghost use Rattle.blast_goal.specs.Propositional.{IsPropositional};
+ghost use Rattle.bv_expr.specs.Propositional.{IsPropositional};
 ghost use Rattle.blast_goal.specs.Values.{bits_of};
 
 use crate::truth::truth;

@@ -41,6 +41,13 @@ impl Name {
     {
         self.text.as_str()
     }
+
+    /// The text, handed back. Takes constant time.
+    pub fn into_string(self) -> String
+        ensures { string_bytes result ≡ self }
+    {
+        self.text
+    }
 }
 
 /// A goal: variables with sorts, hypotheses and a conclusion. It is valid where no values of the variables make all

@@ -6,6 +6,7 @@ mod expr;
 mod goal;
 mod meaning;
 mod ops;
+mod propositional;
 mod shape;
 mod sorts;
 

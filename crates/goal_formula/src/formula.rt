@@ -1,6 +1,6 @@
 //! A goal's clauses. A goal whose circuit is too deep or too large has none, and is told so.
 ghost use Rattle.std.specs.Prelude.{◌≡◌, IfOk, OnOk, IsErrOf};
-ghost use Rattle.blast_goal.specs.Propositional.{IsPropositional};
+ghost use Rattle.bv_expr.specs.Propositional.{IsPropositional};
 ghost use Rattle.tseitin.specs.Clauses.{AreConeOf};
 ghost use Rattle.goal_formula.specs.Ends.{Made, TooDeep, TooMany};
 ghost use Rattle.gate_shape.specs.Builds.{OneEach, Stands};

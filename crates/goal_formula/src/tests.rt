@@ -19,7 +19,7 @@ fn truth(value: bool) -> Result<Expr, Fail>
 }
 
 /// The clause text of the goal that a truth holds.
-#[tactic(auto, unfolding(blast_goal::specs::Propositional::is_propositional))]
+#[tactic(auto, unfolding(bv_expr::specs::Propositional::is_propositional))]
 fn text_of(alloc: Global, value: bool) -> Result<Vec<u8>, Fail> {
     let name = Name::from_string("example".to_owned(alloc)?);
     let goal = Goal::new(
