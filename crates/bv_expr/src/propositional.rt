@@ -8,6 +8,7 @@ use crate::goal::Goal;
 use crate::ops::{Binary, Unary};
 use crate::shape::{Shape, shape_of};
 
+#[tactic(auto, unfolding(crate::specs::Propositional::is_not))]
 fn is_not(op: Unary) -> bool
     ensures { result ≡ is_not op }
 {
@@ -17,6 +18,7 @@ fn is_not(op: Unary) -> bool
     }
 }
 
+#[tactic(auto, unfolding(crate::specs::Propositional::is_connective))]
 fn is_connective(op: Binary) -> bool
     ensures { result ≡ is_connective op }
 {
@@ -27,6 +29,7 @@ fn is_connective(op: Binary) -> bool
 }
 
 // Whether all nodes of the term are propositional.
+#[tactic(auto, unfolding(crate::specs::Propositional::is_propositional))]
 fn is_propositional(term: &Expr) -> bool
     ensures { result ≡ is_propositional term.now }
 {
