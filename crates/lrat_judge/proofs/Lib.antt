@@ -1,0 +1,8 @@
+pub mod Sets
+pub mod Entries
+pub mod Given
+pub mod Marking
+pub mod Hinted
+pub mod Assuming
+pub mod Uncovered
+pub mod Judging
