@@ -1,9 +1,9 @@
 -- A walk over a list of gates asks for fewer and fewer of its places.
-use Rattle.std.proofs.Common.{◌≡◌, ℕ, suc, ◌+◌, ◌-◌, ◌<◌, ◌≤◌, Bool, true, false, nat_eq, nat_lt, length, refl, sym, ap, ◌∙◌, subst, arith, IsTrue, None}
+use Rattle.std.proofs.Common.{◌≡◌, ℕ, ◌+◌, ◌-◌, ◌<◌, ◌≤◌, Bool, true, false, nat_eq, nat_lt, length, refl, sym, ap, ◌∙◌, subst, arith, IsTrue, None}
 use Rattle.std.specs.Prelude.{◌||◌, if◌then◌else◌}
 use Rattle.std.proofs.lemmas.Bool.Decides.{nat_tests}
 use Rattle.gate_shape.specs.Literal.{Literal}
-use Rattle.gate_shape.specs.Builds.{Known, Meaning}
+use Rattle.gate_shape.specs.Builds.{Meaning}
 use Rattle.gate_shape.specs.Listed.{Listed, listed}
 use Rattle.cone_walk.specs.declared.walk.Walk.{Walk}
 use Rattle.cone_walk.specs.declared.walk.Stage.{Stage}

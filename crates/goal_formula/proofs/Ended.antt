@@ -1,6 +1,5 @@
 -- How the making of gates ends is what a list of gates answers.
-use Rattle.std.proofs.Common.{◌≡◌, ℕ, ◌+◌, ◌<◌, ◌≤◌, Bool, true, false, not, List, [], ◌∷◌, ◌++◌, length, length-append, nat_eq, nat_lt, refl, sym, ap, ◌∙◌, subst, arith, All, IsTrue, Ok, Err}
-use Rattle.std.specs.Prelude.{◌&&◌, if◌then◌else◌, slice_index_or}
+use Rattle.std.proofs.Common.{◌≡◌, ℕ, ◌<◌, ◌≤◌, Bool, true, false, List, [], ◌∷◌, ◌++◌, length, length-append, nat_eq, nat_lt, refl, sym, ap, ◌∙◌, subst, arith, All, Ok, Err}
 use Rattle.std.proofs.lemmas.Bool.Decides.{nat_tests}
 use Rattle.std.proofs.lemmas.List.Elements.{All-head, All-tail}
 use Rattle.gate_shape.specs.Literal.{Literal}
@@ -8,7 +7,7 @@ use Rattle.gate_shape.specs.Edge.{Edge, Gate, gate_level}
 use Rattle.gate_shape.specs.Row.{Row}
 use Rattle.gate_shape.specs.declared.builder.GateStop.TheVariants.{Deep, Full}
 use Rattle.gate_shape.specs.Builds.{Builds, Stands, NotDeep, TooDeep, HasGate, noted_all}
-use Rattle.gate_shape.specs.Listed.{Listed, listed, holding, gates_of, grow, has_gate, note_new, no_gate}
+use Rattle.gate_shape.specs.Listed.{Listed, listed, holding, gates_of, grow, has_gate, note_new}
 use Rattle.gate_shape.proofs.Listing.{has_gate-found, note_known, note_unknown, note_refused}
 use Rattle.goal_formula.specs.Ends as ends
 use Rattle.goal_formula.specs.Ends.{End, end_of}

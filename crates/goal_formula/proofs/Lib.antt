@@ -1,3 +1,7 @@
 pub mod Ended
 pub mod Counting
 pub mod Asking
+mod Once
+pub mod Reading
+mod Agreeing
+pub mod Satisfied

@@ -1,3 +1,4 @@
 pub mod Ends
 pub mod Formula
+pub mod Satisfying
 pub mod Unasked

@@ -1,11 +1,13 @@
 //! A goal's clauses. A goal whose circuit is too deep or too large has none, and is told so.
-ghost use Rattle.std.specs.Prelude.{◌≡◌, IfOk, OnOk, IsErrOf};
+ghost use Rattle.std.specs.Prelude.{◌≡◌, ◌↔◌, ℕ, Bool, true, IfOk, OnOk, IsErrOf};
 ghost use Rattle.bv_expr.specs.Propositional.{IsPropositional};
 ghost use Rattle.tseitin.specs.Clauses.{AreConeOf};
 ghost use Rattle.goal_formula.specs.Ends.{Made, TooDeep, TooMany};
 ghost use Rattle.gate_shape.specs.Builds.{OneEach, Stands};
 ghost use Rattle.gate_shape.specs.Listed.{listed};
 ghost use Rattle.goal_formula.specs.Formula.{goal_clauses, goal_edge, goal_end, goal_variables};
+ghost use Rattle.goal_formula.specs.Satisfying.{IsFalsifiable, IsRefutation, IsSatisfiable};
+ghost use Rattle.sat_form.specs.Truth.{satisfies};
 
 use crate::cone::cone_of;
 use blast_goal::edge;
@@ -79,7 +81,8 @@ fn circuit(alloc: Global, goal: &Goal) -> Result<(ListBuilder, Lit23), FormulaSt
 }
 
 /// The cone of a goal's edge and its clauses. The edge is true exactly for the values that falsify the goal, and the
-/// clauses say what the edge says.
+/// clauses are satisfiable exactly where there are such values: values that satisfy them give values that falsify the
+/// goal, read off the variables of the cone's inputs.
 ///
 /// `Deep` comes exactly where the first gate that can't be made would have the level 262,144, `Large` exactly where it
 /// would be the 4,000,001st different one. Both yield to want of memory.
@@ -92,6 +95,8 @@ pub fn formula_of(alloc: Global, goal: &Goal) -> Result<Formula, FormulaStop>
     ensures cone { IfOk result (λ f. AreConeOf (goal_edge goal.now.hyps goal.now.concl) f.cone.nodes.items f.cone.root) }
     ensures clauses { IfOk result (λ f. f.cnf.clauses ≡ goal_clauses goal.now.hyps goal.now.concl) }
     ensures vars { IfOk result (λ f. f.cnf.vars ≡ goal_variables goal.now.hyps goal.now.concl) }
+    ensures satisfiable { IfOk result (λ f. IsSatisfiable f.cnf.clauses ↔ IsFalsifiable goal.now.binders goal.now.hyps goal.now.concl) }
+    ensures falsified { IfOk result (λ f. (values : ℕ → Bool) → satisfies values f.cnf.clauses ≡ true → IsRefutation goal.now.binders goal.now.hyps goal.now.concl (goal_edge goal.now.hyps goal.now.concl) values) }
 {
     let (gates, root) = circuit(alloc, goal)?;
     let cone = cone_of(alloc, &gates, root)?;

@@ -142,11 +142,11 @@ kinds (gate s l r) x h f g =
     (λ a. listed_or (listed_edge x (completions l)) (listed_edge x (completions r)) (sym (listed-append x (completions l) (completions r)) ∙ a) (λ b. kinds l x b f g) (λ b. kinds r x b f g))
     (λ a. listed_or (same x (gate false l r)) false a (λ e. g l r (same-eq x (gate false l r) e)) (λ e. absurd (cc)))
 
-order_kinds : (e x : Edge) {P : Type 0} → listed_edge x (order e) ≡ true → ((k j : ℕ) → x ≡ input false k j → P) → ((l r : Edge) → x ≡ gate false l r → P) → P
+pub order_kinds : (e x : Edge) {P : Type 0} → listed_edge x (order e) ≡ true → ((k j : ℕ) → x ≡ input false k j → P) → ((l r : Edge) → x ≡ gate false l r → P) → P
 unfolding order
 order_kinds e x h f g = firsts-from x [] (completions e) h (λ a. absurd (cc)) (λ a. kinds e x a f g)
 
-listed_at : (done : List Edge) (i : ℕ) (d : Edge) → i < length done → listed_edge (slice_index_or done i d) done ≡ true
+pub listed_at : (done : List Edge) (i : ℕ) (d : Edge) → i < length done → listed_edge (slice_index_or done i d) done ≡ true
 listed_at [] i d l = absurd (omega (arith, l))
 listed_at (x ∷ done) zero d l = rw (same-self x) refl
 listed_at (x ∷ done) (suc i) d l = rw (listed_at done i d (omega (arith, l))) (or_true _)

@@ -1,4 +1,4 @@
-use Rattle.std.proofs.Common.{◌≡◌, ℕ, ◌+◌, length}
+use Rattle.std.proofs.Common.{◌≡◌, ◌+◌, length}
 use Rattle.gate_shape.specs.Listed.{listed}
 use Rattle.cone_walk.specs.Walk.{Follows, Replies, root_of, was_asked}
 use Rattle.goal_formula.specs.Unasked.{unasked}

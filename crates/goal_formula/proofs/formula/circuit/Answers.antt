@@ -1,4 +1,4 @@
-use Rattle.std.proofs.Common.{◌≡◌, Err, subst, sym, arith, length, ◌≤◌}
+use Rattle.std.proofs.Common.{◌≡◌, Err, subst, arith}
 use Rattle.gate_shape.specs.Edge.{Edge}
 use Rattle.gate_shape.specs.Literal.{Literal}
 use Rattle.gate_shape.specs.Builds.{Builds, Stands}
