@@ -1,16 +1,15 @@
 -- Literals that are assumed to be false, one after the other.
-use Rattle.std.proofs.Common.{subst, ◌≡◌, ◌≢◌, ℕ, ◌+◌, ◌<◌, Bool, true, false, not, ◌&&◌, ◌||◌, cond, List, [], ◌∷◌, ◌++◌, map, refl, ap, sym, ◌∙◌, arith, length, take, drop, get_or, nat_eq, suc, drop-cons, add-one}
+use Rattle.std.proofs.Common.{◌≡◌, ℕ, ◌+◌, ◌<◌, Bool, true, false, not, ◌&&◌, ◌||◌, cond, List, [], ◌∷◌, ◌++◌, map, refl, ap, sym, ◌∙◌, arith, length, drop, get_or, nat_eq, suc, drop-cons, add-one}
 use Rattle.std.specs.Prelude.{Some, None}
 use Rattle.std.specs.List.{list_any}
 use Rattle.std.specs.declared.option.Option.{Option}
 use Rattle.std.proofs.lemmas.List.Folds.{list_any-append}
 use Rattle.std.proofs.lemmas.Grind.{common_steps}
 use Rattle.sat_form.specs.Literals.{Literal, negate, same_literal, same_sign, member}
-use Rattle.sat_form.specs.Assignment.{is_true, is_false}
+use Rattle.sat_form.specs.Assignment.{is_true}
 use Rattle.lrat_lines.specs.Judge.{two_opposite, others}
 use Rattle.lrat_judge.specs.Marked.{Same}
 use Rattle.lrat_judge.specs.Assumed.{blocked, rest_of, Assumes}
-use Rattle.lrat_judge.proofs.Marking.{member_last}
 use Rattle.lrat_judge.proofs.Sets.{same_is, same_itself, nat_itself}
 
 pub any_same : (p q : Literal → Bool) → ((l : Literal) → p l ≡ q l) → (c : List Literal) → list_any p c ≡ list_any q c
@@ -75,19 +74,10 @@ blocked_step a c k h =
     ∙ sums any m (two_opposite c)
     ∙ sym (ap (λ b. b || two_opposite c) right)
 
-blocked_true : (a c : List Literal) (k : Literal) → is_true a k ≡ true → blocked a (k ∷ c) ≡ true
-blocked_true a c k h = ap (λ b. (b || list_any (is_true a) c) || two_opposite (k ∷ c)) h
-
 or_moved : (s m b : Bool) → (s || (m || b)) ≡ (m || (s || b))
 or_moved true true b = refl
 or_moved true false b = refl
 or_moved false m b = refl
-
-or_flip : (a b : Bool) → (a || b) ≡ (b || a)
-or_flip true true = refl
-or_flip true false = refl
-or_flip false true = refl
-or_flip false false = refl
 
 rest_same : (b r : List Literal) (k : Literal) → Same (map negate (k ∷ r) ++ b) (map negate r ++ (negate k ∷ b))
 rest_same b r k x =
@@ -98,10 +88,6 @@ rest_same b r k x =
 kept_at : (l k : Literal) (c : List Literal) (b : Bool) → same_literal l k ≡ b → (l ≡ k → ⊥) → cond (not (same_literal l k)) (k ∷ others c l) (others c l) ≡ k ∷ others c l
 kept_at l k c true q n = absurd (n (same_is l k q))
 kept_at l k c false q n = ap (λ b. cond (not b) (k ∷ others c l) (others c l)) q
-
-already_at : (m : List Literal) (l x : Literal) → member m l ≡ true → (b : Bool) → same_literal x l ≡ b → member m x ≡ (same_literal x l || member m x)
-already_at m l x h true q = ap (member m) (same_is x l q) ∙ h ∙ sym (ap (λ b. b || member m x) q)
-already_at m l x h false q = sym (ap (λ b. b || member m x) q)
 
 rest_kept : (o : Option Literal) (k : Literal) (c : List Literal) → (o ≡ Some k → ⊥) → rest_of o (k ∷ c) ≡ k ∷ rest_of o c
 rest_kept None k c n = refl
@@ -119,9 +105,6 @@ module _ (o : Option Literal) (m n a whole c : List Literal) (k : Literal) where
   pub skip : o ≡ Some k → IsAssumed o m a whole (k ∷ c) → IsAssumed o m a whole c
   skip e (b, s, t, u) = (b, s, t ∙ ap (blocked b) (rest_skipped o k c e), λ x. u x ∙ ap (λ r. member (map negate r ++ b) x) (rest_skipped o k c e))
 
-  pub true_one : (o ≡ Some k → ⊥) → member m k ≡ true → IsAssumed o m a whole (k ∷ c) → blocked a whole ≡ true
-  true_one e h (b, s, t, u) = t ∙ ap (blocked b) (rest_kept o k c e) ∙ blocked_true b (rest_of o c) k (sym (s k) ∙ h)
-
   pub assumed : (o ≡ Some k → ⊥) → member m k ≡ false → ((x : Literal) → member n x ≡ (same_literal x (negate k) || member m x)) → IsAssumed o m a whole (k ∷ c) → IsAssumed o n a whole c
   assumed e h more (b, s, t, u) = (
     negate k ∷ b,
@@ -129,12 +112,6 @@ module _ (o : Option Literal) (m n a whole c : List Literal) (k : Literal) where
     t ∙ ap (blocked b) (rest_kept o k c e) ∙ blocked_step b (rest_of o c) k (sym (s k) ∙ h),
     λ x. u x ∙ ap (λ r. member (map negate r ++ b) x) (rest_kept o k c e) ∙ rest_same b (rest_of o c) k x,
   )
-
-pub one_more : (m : List Literal) (l x : Literal) → member (m ++ l ∷ []) x ≡ (same_literal x l || member m x)
-one_more m l x = member_last m x l ∙ or_flip (member m x) (same_literal x l)
-
-pub already : (m : List Literal) (l x : Literal) → member m l ≡ true → member m x ≡ (same_literal x l || member m x)
-already m l x h = already_at m l x h (same_literal x l) refl
 
 pub next_is : (xs : List Literal) (i : ℕ) (k : Literal) → i < length xs → k ≡ get_or xs i k → drop i xs ≡ k ∷ drop (i + 1) xs
 next_is xs i k h e = drop-cons xs i k h ∙ ap (λ l. l ∷ drop (suc i) xs) (sym e) ∙ ap (λ n. k ∷ drop n xs) (sym (add-one i))

@@ -1,18 +1,17 @@
 -- What hints come to.
-use Rattle.std.proofs.Common.{subst, ◌≡◌, ◌≢◌, ℕ, zero, suc, ◌+◌, ◌<◌, ◌≤◌, ℤ, pos, negsuc, Bool, true, false, not, ◌&&◌, ◌||◌, cond, List, [], ◌∷◌, ◌++◌, map, refl, ap, sym, ◌∙◌, arith, length, take, drop, get_or, nat_abs, drop-cons, add-one}
+use Rattle.std.proofs.Common.{subst, ◌≡◌, ℕ, zero, suc, ◌+◌, ◌<◌, ◌≤◌, ℤ, pos, negsuc, Bool, true, false, not, ◌&&◌, ◌||◌, cond, List, [], ◌∷◌, ◌++◌, map, refl, ap, sym, ◌∙◌, arith, length, take, drop, get_or, nat_abs, drop-cons, add-one}
 use Rattle.std.specs.Prelude.{Some, None}
-use Rattle.std.specs.List.{list_any, list_all}
+use Rattle.std.specs.List.{list_all}
 use Rattle.std.specs.declared.option.Option.{Option}
-use Rattle.std.proofs.lemmas.List.{length-take, take-append-le}
-use Rattle.sat_form.specs.Literals.{Literal, negate, same_literal, member}
-use Rattle.sat_form.specs.Assignment.{is_true, is_false, is_assigned, clause_false, unit_literal}
+use Rattle.std.proofs.lemmas.List.{length-take}
+use Rattle.sat_form.specs.Literals.{Literal, same_literal, member}
+use Rattle.sat_form.specs.Assignment.{is_false, is_assigned, clause_false, unit_literal}
 use Rattle.lrat_lines.specs.Judge as judge
 use Rattle.lrat_lines.specs.Judge.{Clauses, clause_of, take_clause, take_unit, take_hints, split_hints, with_hint, Hints, Group}
 use Rattle.lrat_lines.specs.Judge.Taken.{Conflict as Clash, Units, Stop as Refuse}
 use Rattle.lrat_judge.specs.declared.hints.Taken.{Taken}
 use Rattle.lrat_judge.specs.declared.hints.Taken.TheVariants.{Conflict, Open, Stop}
 use Rattle.lrat_judge.specs.Marked.{Same}
-use Rattle.lrat_judge.specs.Judged.{cause_shown}
 use Rattle.lrat_judge.specs.Taken.{Comes, begins_group}
 use Rattle.lrat_judge.proofs.Marking.{member_last, false_same, unit_same}
 
@@ -89,6 +88,3 @@ take-take-le (suc m) (suc n) (x ∷ xs) h = ap (λ r. x ∷ r) (take-take-le m n
 pub keeps_more : (a b c : List Literal) → take (length a) b ≡ a → take (length b) c ≡ b → take (length a) c ≡ a
 keeps_more a b c h k =
     sym (ap (take (length a)) (sym k) ∙ take-take-le (length a) (length b) c (omega (arith, ap length h, length-take (length a) b))) ∙ h
-
-pub keeps_one : (a b c : List Literal) (l : Literal) → take (length a) b ≡ a → c ≡ b ++ l ∷ [] → take (length a) c ≡ a
-keeps_one a b c l h e = ap (take (length a)) e ∙ take-append-le (length a) b (l ∷ []) (omega (arith, ap length h, length-take (length a) b)) ∙ h

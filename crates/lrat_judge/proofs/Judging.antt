@@ -1,5 +1,5 @@
 -- What an addition comes to.
-use Rattle.std.proofs.Common.{subst, ◌≡◌, ℕ, ℤ, Bool, true, false, ◌||◌, cond, List, [], ◌∷◌, ◌++◌, map, refl, ap, sym, ◌∙◌, suc, length, nat_eq, arith}
+use Rattle.std.proofs.Common.{◌≡◌, ℕ, ℤ, Bool, true, false, ◌||◌, cond, List, [], ◌∷◌, ◌++◌, map, refl, ap, sym, ◌∙◌, suc, length, nat_eq, arith}
 use Rattle.std.specs.Prelude.{Some, None, Ok, Err, IfOk}
 use Rattle.std.specs.declared.result.Result.{Result}
 use Rattle.std.specs.List.{list_any, slice_get}
@@ -13,13 +13,10 @@ use Rattle.sat_form.specs.Assignment.{is_true}
 use Rattle.lrat_lines.specs.Judge as judge
 use Rattle.lrat_lines.specs.Judge.{Clauses, Hints, Group, two_opposite, take_hints, judge_first, judge_pivot}
 use Rattle.lrat_lines.specs.Judge.Taken.{Conflict as Clash, Units, Stop as Refuse}
-use Rattle.lrat_judge.specs.declared.hints.Taken.{Taken}
-use Rattle.lrat_judge.specs.declared.hints.Taken.TheVariants.{Conflict, Open, Stop}
 use Rattle.lrat_judge.specs.Marked.{Same}
 use Rattle.lrat_lines.specs.Lines.Line.{Add as Addition}
 use Rattle.lrat_judge.specs.declared.cause.Cause.{Cause}
 use Rattle.lrat_judge.specs.Judged.{cause_shown}
-use Rattle.lrat_judge.specs.Taken.{Comes}
 use Rattle.lrat_judge.specs.Assumed.{blocked, Assumes, judge_new}
 use Rattle.lrat_judge.proofs.Uncovered.{missing_same}
 

@@ -1,25 +1,17 @@
 -- Marks and the literals that they stand for.
-use Rattle.std.proofs.Common.{subst, ◌≡◌, ◌≢◌, ℕ, suc, ◌+◌, ◌<◌, ◌≤◌, Bool, true, false, not, ◌&&◌, ◌||◌, cond, List, [], ◌∷◌, ◌++◌, map, refl, ap, sym, ◌∙◌, arith, nat_eq, nat_lt, length, take, get_or, set, get_or-set_same, get_or-set_other}
+use Rattle.std.proofs.Common.{subst, ◌≡◌, ℕ, Bool, true, false, not, ◌&&◌, ◌||◌, cond, List, [], ◌∷◌, ◌++◌, refl, ap, sym, ◌∙◌, arith, nat_eq, length, take, get_or}
 use Rattle.std.specs.Prelude.{Some, None}
-use Rattle.std.specs.List.{list_any, list_all}
+use Rattle.std.specs.List.{list_all}
 use Rattle.std.specs.declared.option.Option.{Option}
-use Rattle.std.proofs.lemmas.Grind.{common_steps}
 use Rattle.std.proofs.lemmas.List.Folds.{list_any-append}
-use Rattle.std.proofs.lemmas.List.{take-append-le, take_all, length-take, length-append, get_or_past}
+use Rattle.std.proofs.lemmas.List.{take-append-le, take_all, length-append}
 use Rattle.std.proofs.Math.ListN.{get_or-append}
 use Rattle.std.proofs.Math.Seq.{get_or-append_seam}
 use Rattle.sat_form.specs.Literals.{Literal, negate, same_literal, same_sign, member}
 use Rattle.sat_form.specs.Assignment.{is_true, is_false, is_assigned, clause_false, unit_literal}
 use Rattle.lrat_judge.specs.Values.{Gets}
 use Rattle.lrat_judge.specs.Marked.{makes_true, AreTrueAt, IsTrail, Same}
-use Rattle.lrat_judge.proofs.Sets.{neither, nat_is, nat_itself, same_itself}
-use borrow.Author.Tests.{ltb-true, ltb-false}
-
-sign_turned : (a b : Bool) → same_sign a b ≡ same_sign b a
-sign_turned true true = refl
-sign_turned true false = refl
-sign_turned false true = refl
-sign_turned false false = refl
+use Rattle.lrat_judge.proofs.Sets.{neither, nat_is}
 
 abbrev lit : ℕ → Bool → Literal
 lit v p = record { var = v; positive = p }
@@ -34,11 +26,6 @@ member_last s k l = list_any-append (same_literal k) s (l ∷ []) ∙ ap (λ b. 
 take_front : (xs ys : List Literal) → take (length xs) (xs ++ ys) ≡ xs
 take_front xs ys = take-append-le (length xs) xs ys (omega arith) ∙ take_all (length xs) xs (omega arith)
 
-below : (trail : List Literal) (l : Literal) (k : ℕ) → k < length (trail ++ l ∷ []) → nat_eq k (length trail) ≡ false → k < length trail
-below trail l k h e =
-    let d : k ≢ length trail = (λ q. (let y = nat_itself (length trail) in let z : nat_eq (length trail) (length trail) ≡ false = subst (λ (n : ℕ). nat_eq n (length trail) ≡ false) q e in cc)) in
-    omega (arith, h, length-append trail (l ∷ []))
-
 unassigned_at : (s : List Literal) (v : ℕ) (q p : Bool) → (member s (lit v q) ≡ false) × (member s (lit v (not q)) ≡ false) → member s (lit v p) ≡ false
 unassigned_at s v true true h = h.0
 unassigned_at s v true false h = h.1
@@ -48,37 +35,6 @@ unassigned_at s v false false h = h.0
 -- of a variable without a literal that is true
 unassigned : (s : List Literal) (l : Literal) (p : Bool) → is_assigned s l ≡ false → member s (lit l.var p) ≡ false
 unassigned s l p h = unassigned_at s l.var l.positive p (neither (is_true s l) (is_false s l) h)
-
--- one literal more
-pub push_marks : (old new : ℕ → Option Bool) (trail : List Literal) (l : Literal) → Gets old new l.var (Some l.positive) → AreTrueAt old trail → is_assigned trail l ≡ false → AreTrueAt new (trail ++ l ∷ [])
-push_marks old new trail l gets marks free var positive =
-    elim (nat_eq var l.var) as (λ b. nat_eq var l.var ≡ b → makes_true (new var) positive ≡ member (trail ++ l ∷ []) (lit var positive)) [
-      | true ↦ (λ e. let v : var ≡ l.var = nat_is var l.var e in
-          ap (λ m. makes_true m positive) (gets var ∙ ap (λ b. cond b (Some l.positive) (old var)) e)
-          ∙ subst (λ (n : ℕ). same_sign l.positive positive ≡ member (trail ++ l ∷ []) (lit n positive)) (sym v)
-          (sym (member_last trail (lit l.var positive) l
-          ∙ ap (λ b. b || (nat_eq l.var l.var && same_sign positive l.positive)) (unassigned trail l positive free)
-          ∙ ap (λ b. b && same_sign positive l.positive) (nat_itself l.var)
-          ∙ sign_turned positive l.positive)))
-      | false ↦ (λ e.
-          ap (λ m. makes_true m positive) (gets var ∙ ap (λ b. cond b (Some l.positive) (old var)) e)
-          ∙ marks var positive
-          ∙ sym (member_last trail (lit var positive) l ∙ ap (λ b. member trail (lit var positive) || (b && same_sign positive l.positive)) e ∙ or_false (member trail (lit var positive))))
-    ] refl
-
-pub push_trail : (trail : List Literal) (l : Literal) → IsTrail trail → is_assigned trail l ≡ false → IsTrail (trail ++ l ∷ [])
-push_trail trail l old free k d within =
-    elim (nat_eq k (length trail)) as (λ b. nat_eq k (length trail) ≡ b → is_assigned (take k (trail ++ l ∷ [])) (get_or (trail ++ l ∷ []) k d) ≡ false) [
-      | true ↦ (λ e. let v : k ≡ length trail = nat_is k (length trail) e in
-          subst (λ (n : ℕ). is_assigned (take n (trail ++ l ∷ [])) (get_or (trail ++ l ∷ []) n d) ≡ false) (sym v)
-          (ap (λ t. is_assigned t (get_or (trail ++ l ∷ []) (length trail) d)) (take_front trail (l ∷ [])) ∙ ap (is_assigned trail) (get_or-append_seam trail l [] d) ∙ free))
-      | false ↦ (λ e. let h : k < length trail = below trail l k within e in
-          ap (λ t. is_assigned t (get_or (trail ++ l ∷ []) k d)) (take-append-le k trail (l ∷ []) (omega arith)) ∙ ap (is_assigned (take k trail)) (get_or-append trail (l ∷ []) d k h) ∙ old k d h)
-    ] refl
-
-or_true : (b : Bool) → (b || true) ≡ true
-or_true true = refl
-or_true false = refl
 
 -- without the last
 last_free : (trail : List Literal) (l : Literal) → IsTrail (trail ++ l ∷ []) → is_assigned trail l ≡ false

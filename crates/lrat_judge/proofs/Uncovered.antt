@@ -1,25 +1,15 @@
 -- Clauses that want a group.
-use Rattle.std.proofs.Common.{◌≡◌, ℕ, ◌+◌, ◌<◌, ℤ, pos, negsuc, Bool, true, false, not, ◌&&◌, ◌||◌, cond, List, [], ◌∷◌, refl, ap, sym, ◌∙◌, length, drop, get_or, drop-cons, add-one}
-use Rattle.std.specs.Prelude.{Some, None}
-use Rattle.std.specs.List.{list_any, find}
+use Rattle.std.proofs.Common.{◌≡◌, Bool, not, ◌&&◌, cond, List, [], ◌∷◌, refl, ap, ◌∙◌}
+use Rattle.std.specs.Prelude.{Some}
+use Rattle.std.specs.List.{find}
 use Rattle.std.specs.Option.{option_map}
 use Rattle.sat_form.specs.Literals.{Literal, negate, member}
 use Rattle.sat_form.specs.Assignment.{is_true}
-use Rattle.lrat_lines.specs.Judge.{Clauses, Entry, Group, split_hints, others, is_missed, judge_missing}
+use Rattle.lrat_lines.specs.Judge.{Clauses, Entry, Group, others, is_missed, judge_missing}
 use Rattle.lrat_lines.specs.Judge.Cause.{MissingGroup}
 use Rattle.lrat_judge.specs.Marked.{Same}
-use Rattle.lrat_judge.specs.Named.{has_named, names_id}
+use Rattle.lrat_judge.specs.Named.{has_named}
 use Rattle.lrat_judge.proofs.Assuming.{any_same}
-
-named_first : (z : ℤ) (zs : List ℤ) (id : ℕ) → has_named (split_hints (z ∷ zs)).groups id ≡ (names_id z id || has_named (split_hints zs).groups id)
-named_first (pos n) zs id = refl
-named_first (negsuc n) zs id = refl
-
--- one hint of those to come
-pub named_step : (zs : List ℤ) (i id : ℕ) → i < length zs → has_named (split_hints (drop i zs)).groups id ≡ (names_id (get_or zs i (pos 0)) id || has_named (split_hints (drop (i + 1) zs)).groups id)
-named_step zs i id h =
-    ap (λ r. has_named (split_hints r).groups id) (drop-cons zs i (pos 0) h ∙ ap (λ k. get_or zs i (pos 0) ∷ drop k zs) (sym (add-one i)))
-    ∙ named_first (get_or zs i (pos 0)) (drop (i + 1) zs) id
 
 missed_same : (m a : List Literal) (pivot : Literal) (gs : List Group) → Same m a → (e : Entry) → is_missed m pivot gs e ≡ is_missed a pivot gs e
 missed_same m a pivot gs same e = ap (λ b. member e.lits (negate pivot) && (not (has_named gs e.id) && not b)) (any_same (is_true m) (is_true a) same (others e.lits (negate pivot)))

@@ -1,5 +1,5 @@
 -- What a clause's literals come to, one after the other.
-use Rattle.std.specs.Prelude.{◌≡◌, Bool, true, false, cond, ◌||◌, List, Option, None, Some}
+use Rattle.std.specs.Prelude.{◌≡◌, true, false, cond, ◌||◌, List, Option, None, Some}
 use Rattle.std.specs.List.{list_all}
 use Rattle.sat_form.specs.Literals.{Literal, same_literal}
 use Rattle.sat_form.specs.Assignment.{is_false, clause_false, unit_literal}

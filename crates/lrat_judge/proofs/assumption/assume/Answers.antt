@@ -1,10 +1,10 @@
-use Rattle.std.proofs.Common.{◌≡◌, ◌≢◌, ◌+◌, ◌∷◌, List, drop, length, arith, refl, rules, subst, sym, ◌∙◌, true, false}
+use Rattle.std.proofs.Common.{◌≡◌, ◌+◌, List, drop, length, arith, refl, subst, sym, ◌∙◌, true, false}
 use Rattle.std.specs.Prelude.{Some}
 use Rattle.std.proofs.lemmas.List.{take_all, drop_all}
-use Rattle.sat_form.specs.Literals.{Literal, member, negate}
+use Rattle.sat_form.specs.Literals.{Literal, member}
 use Rattle.lrat_judge.specs.Assumed.{rest_of}
-use Rattle.lrat_judge.proofs.Hinted.{keeps_more, keeps_one}
-use Rattle.lrat_judge.proofs.Assuming.{IsAssumed, skip, assumed, one_more, already, next_is, ends}
+use Rattle.lrat_judge.proofs.Hinted.{keeps_more}
+use Rattle.lrat_judge.proofs.Assuming.{IsAssumed, skip, assumed, next_is, ends}
 use Rattle.lrat_judge.proofs.assumption.assume.Goals as goal
 
 pub loop-lit-init : goal.loop-lit-init

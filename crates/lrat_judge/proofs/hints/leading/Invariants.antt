@@ -1,4 +1,4 @@
-use Rattle.std.proofs.Common.{◌≡◌, ℕ, ◌<◌, ℤ, pos, false, get_or}
+use Rattle.std.proofs.Common.{◌≡◌, ℕ, ◌<◌, pos, false, get_or}
 use Rattle.lrat_judge.specs.Taken.{begins_group}
 use Rattle.lrat_judge.proofs.hints.leading.Given as goal
 

@@ -1,4 +1,3 @@
-use Rattle.std.proofs.Common.{arith, sym, ◌∙◌}
 use Rattle.lrat_judge.proofs.Hinted.{unit_free, took_false, took_unit, took_neither}
 use Rattle.lrat_judge.proofs.hints.take_hint.Goals as goal
 

@@ -1,6 +1,5 @@
-use Rattle.std.proofs.Common.{◌≡◌, ◌+◌, ◌∷◌, List, ap, sym, ◌∙◌, refl, subst, map, drop, take, length, nat_abs, get_or, pos, arith}
+use Rattle.std.proofs.Common.{◌+◌, ◌∷◌, ap, sym, ◌∙◌, refl, subst, map, drop, length, nat_abs, arith}
 use Rattle.std.proofs.lemmas.List.{take_all}
-use Rattle.sat_form.specs.Literals.{Literal}
 use Rattle.lrat_lines.specs.Judge as judge
 use Rattle.lrat_judge.specs.Taken.{Comes}
 use Rattle.lrat_judge.specs.declared.hints.Taken.{Taken}

@@ -1,5 +1,4 @@
-use Rattle.std.proofs.Common.{◌≡◌, ◌++◌, [], List, Bool, ap, sym, ◌∙◌, refl, subst, map, true, false, nat_abs}
-use Rattle.std.specs.Prelude.{Some, None}
+use Rattle.std.proofs.Common.{◌≡◌, ◌++◌, [], List, Bool, ap, sym, ◌∙◌, subst, map, nat_abs}
 use Rattle.std.specs.Option.{option_map}
 use Rattle.sat_form.specs.Literals.{Literal, negate, member}
 use Rattle.lrat_lines.specs.Judge as judge

@@ -1,4 +1,4 @@
-use Rattle.std.proofs.Common.{ap, sym, ◌∙◌}
+use Rattle.std.proofs.Common.{ap}
 use Rattle.std.specs.Option.{option_map}
 use Rattle.lrat_lines.specs.Judge.{split_hints}
 use Rattle.lrat_judge.specs.Judged.{cause_shown}

@@ -1,4 +1,4 @@
-use Rattle.std.proofs.Common.{◌≡◌, ap, sym, ◌∙◌}
+use Rattle.std.proofs.Common.{ap, ◌∙◌}
 use Rattle.lrat_lines.specs.Judge.{clause_of, add_clause}
 use Rattle.lrat_judge.proofs.Entries.{insert_entries, entries}
 use Rattle.lrat_judge.proofs.known.Known.add.Goals as goal

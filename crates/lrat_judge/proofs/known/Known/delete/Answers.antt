@@ -1,6 +1,5 @@
-use Rattle.std.proofs.Common.{◌≡◌, ◌∷◌, ℕ, suc, ◌+◌, ap, sym, ◌∙◌, drop, drop-cons, add-one, get_or, arith}
+use Rattle.std.proofs.Common.{◌∷◌, ◌+◌, ap, sym, ◌∙◌, drop, drop-cons, add-one, get_or, arith}
 use Rattle.std.proofs.lemmas.List.{drop_all}
-use Rattle.std.specs.List.{list_any}
 use Rattle.lrat_lines.specs.Judge.{delete_clauses, Clauses}
 use Rattle.lrat_judge.proofs.Entries.{entries, remove_entries, delete_step, delete_none}
 use Rattle.lrat_judge.proofs.known.Known.delete.Goals as goal

@@ -1,8 +1,7 @@
-use Rattle.std.proofs.Common.{◌≡◌, ◌≤◌, ◌+◌, ◌∷◌, ◌++◌, [], List, ap, sym, ◌∙◌, arith, length, take}
-use Rattle.std.specs.Prelude.{None}
+use Rattle.std.proofs.Common.{◌≤◌, ap, sym, ◌∙◌, arith, length}
 use Rattle.std.proofs.lemmas.Option.{slice_get_within}
 use Rattle.std.proofs.lemmas.List.{take_all}
-use Rattle.lrat_lines.specs.Judge.{given, clause_of, add_clause}
+use Rattle.lrat_lines.specs.Judge.{given}
 use Rattle.lrat_judge.proofs.Given.{free_behind, one_more_given, none_past}
 use Rattle.lrat_judge.proofs.known.Known.given.Goals as goal
 

@@ -1,4 +1,4 @@
-use Rattle.std.proofs.Common.{◌≡◌, ◌∷◌, [], ◌++◌, ap, sym, ◌∙◌, take, length, arith}
+use Rattle.std.proofs.Common.{◌∷◌, [], ap, sym, ◌∙◌, take, length, arith}
 use Rattle.std.proofs.lemmas.List.{take-append-le, length-append}
 use Rattle.lrat_judge.specs.Values.{value_in}
 use Rattle.lrat_judge.proofs.Marking.{undo_last}
