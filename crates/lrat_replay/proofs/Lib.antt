@@ -1,0 +1,4 @@
+pub mod Splitting
+pub mod Stepping
+pub mod Answering
+pub mod Concluding

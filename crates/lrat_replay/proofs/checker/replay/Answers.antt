@@ -1,0 +1,22 @@
+use Rattle.lrat_lines.specs.Judge.{given}
+use Rattle.lrat_replay.proofs.Concluding.{exactly, never_short, of_some, refutes}
+use Rattle.lrat_replay.proofs.checker.replay.Goals as goal
+
+pub returns-clause-exact : goal.returns-clause-exact
+returns-clause-exact g c =
+    let new = c.in_ok-progress.ensures in
+    exactly c.args.cnf.now.clauses c.args.most c.in_ok-progress.progress new.judge new.begun new.judged new.left c.run.result (g.R.Source.left c.args.source.now) c.run.ensures.answers
+
+pub returns-clause-told_or_not : goal.returns-clause-told_or_not
+returns-clause-told_or_not g c =
+    let new = c.in_ok-progress.ensures in
+    of_some c.args.cnf.now.clauses c.args.most c.in_ok-progress.progress new.judge new.begun new.judged new.left c.run.result (g.R.Source.left c.args.source.now) c.run.ensures.answers
+
+pub returns-clause-refuted : goal.returns-clause-refuted
+returns-clause-refuted g c =
+    let new = c.in_ok-progress.ensures in
+    refutes c.args.cnf.now.clauses c.args.most c.in_ok-progress.progress new.judge new.begun new.judged new.left (c.checked_lines_refute.ensures c.args.cnf.now.clauses) (c.checked_lines_are_accepted.ensures.only (given c.args.cnf.now.clauses) 1) c.run.result (g.R.Source.left c.args.source.now) c.run.ensures.answers
+
+pub returns-clause-short : goal.returns-clause-short
+returns-clause-short g c =
+    never_short c.run.result c.args.most c.in_ok-progress.progress (g.R.Source.room c.args.source.now) c.in_ok-progress.ensures.left c.run.ensures.too_long

@@ -1,0 +1,6 @@
+pub mod Answer
+pub mod Memory
+pub mod Line
+pub mod Leads
+pub mod Standing
+pub mod Told
