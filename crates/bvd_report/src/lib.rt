@@ -6,4 +6,6 @@ pub mod goal_line;
 pub mod report;
 pub mod status;
 pub mod summary;
+#[cfg(test)]
+mod tests;
 pub mod told;
