@@ -3,7 +3,6 @@ use Rattle.std.proofs.Common.{◌≡◌, ℕ, ◌+◌, ◌*◌, ◌-◌, ◌<◌
 use Rattle.std.specs.Prelude.{Option, if◌then◌else◌, ◌&&◌}
 use Rattle.std.proofs.lemmas.Bool.Decides.{nat_tests}
 use Rattle.bv_lines.specs.Lines.{lines_of, onto_first, value_from}
-use Rattle.bv_lines.specs.Closed.{goals_in, goals_on}
 use Rattle.std.specs.List.{prefix_len}
 use Rattle.bv_lines.specs.Progress.{is_inside}
 
@@ -61,14 +60,3 @@ line_at c (d ∷ ds) n k e f =
 pub line_of : (text : List ℕ) (n : ℕ) → 0 < length text → n ≡ prefix_len is_inside text → lines_of text ≡ take n text ∷ lines_of (drop (n + 1) text)
 line_of [] n h e = absurd (omega arith)
 line_of (c ∷ cs) n h e = line_at c cs n (n + 1) e refl
-
-some_first : (c : ℕ) (lines : List (List ℕ)) → 1 ≤ length (onto_first c lines)
-some_first c [] = omega arith
-some_first c (line ∷ lines) = omega arith
-
-pub lines_some : (text : List ℕ) → 0 < length text → 1 ≤ length (lines_of text)
-lines_some [] h = absurd (omega arith)
-lines_some (c ∷ cs) h = elim (nat_eq c 10) as (λ b. 1 ≤ length (if b then [] ∷ lines_of cs else onto_first c (lines_of cs))) [ true ↦ omega arith | false ↦ some_first c (lines_of cs) ]
-
-pub too_many : (bytes : List ℕ) → 1024 < length (lines_of bytes) → None ≡ goals_in bytes
-too_many bytes h = grind (arith, nat_tests)

@@ -1,12 +1,12 @@
--- Files of closed equations, one a line: `example : T = T := by bv_decide`, where T is a literal `n#w` or two literals with `+` or `&&&` between them.
-use Rattle.std.specs.Prelude.{ℕ, ◌&&◌, List, [], ◌∷◌, length, Option, Some, None, option_map, nat_eq, nat_le, is_some, codes, if◌then◌else◌}
+-- Lines of closed equations: `example : T = T := by bv_decide`, where T is a literal `n#w` or two literals with `+` or `&&&` between them.
+use Rattle.std.specs.Prelude.{ℕ, ◌&&◌, List, [], length, Option, Some, None, option_map, nat_eq, nat_le, is_some, codes, if◌then◌else◌}
 use Rattle.bv_value.specs.BitVector.{BitVector, of_number}
 use Rattle.bv_expr.specs.declared.ops.Binary.{Binary}
 use Rattle.bv_expr.specs.declared.ops.Binary.TheVariants as on
 use Rattle.bv_expr.specs.Term.{Term, constant, binary}
 use Rattle.bv_expr.specs.Sorts.{sort_of}
 use Rattle.bv_lines.specs.Statement.{Statement}
-use Rattle.bv_lines.specs.Lines.{and_then, behind, digits_at, number_at, lines_of}
+use Rattle.bv_lines.specs.Lines.{and_then, behind, digits_at, number_at, or_else}
 
 -- a literal: a number of at most 39 digits, `#` and a width of 1 to 128; and what follows it
 abbrev pub literal_at : List ℕ → Option (BitVector × List ℕ)
@@ -17,11 +17,6 @@ literal_at text =
     and_then (number_at rest) (λ w.
     if nat_le 1 w.0 && nat_le w.0 128 then Some (of_number w.0 n.0, w.1) else None)))
     else None
-
--- the first of two readings that isn't refused
-abbrev pub or_else : {A : Type 0} → Option A → Option A → Option A
-or_else (Some x) other = Some x
-or_else None other = other
 
 -- an operator between two spaces, and what follows it
 abbrev pub operator_at : List ℕ → Option (Binary × List ℕ)
@@ -58,13 +53,3 @@ goal_in line =
     and_then (side_at rest) (λ y.
     and_then (behind (codes " := by bv_decide") y.1) (λ rest.
     if nat_eq (length rest) 0 then equation x.0 y.0 else None)))))
-
--- the goals of lines, the empty ones aside
-abbrev pub goals_on : List (List ℕ) → Option (List Statement)
-goals_on [] = Some []
-goals_on ([] ∷ lines) = goals_on lines
-goals_on ((c ∷ line) ∷ lines) = and_then (goal_in (c ∷ line)) (λ goal. option_map (λ goals. goal ∷ goals) (goals_on lines))
-
--- the goals of a file, where it has at most 65,536 bytes and 1,024 lines and each line is empty or a goal
-abbrev pub goals_in : List ℕ → Option (List Statement)
-goals_in bytes = if nat_le (length bytes) 65536 && nat_le (length (lines_of bytes)) 1024 then goals_on (lines_of bytes) else None

@@ -1,6 +1,5 @@
-//! Reads files whose goals stand one a line. Each shape of a line has a file of its own; a file of goals is read line by line, in one pass.
+//! Reads lines of text. Each shape of a line that states a goal has a file of its own, and stands on what can be read at a text's front.
 #![tactic(auto)]
 
 pub mod closed;
-pub mod file;
 pub mod text;

@@ -1,13 +1,13 @@
 -- Terms that connectives make of truths fit as their parts do.
-use Rattle.std.proofs.Common.{◌≡◌, ℕ, ◌+◌, ◌<◌, ◌≤◌, Bool, true, List, [], refl, arith}
-use Rattle.std.specs.Prelude.{Some, ◌++◌, IsTrue, All, max, ◌&&◌}
+use Rattle.std.proofs.Common.{◌≡◌, ℕ, ◌<◌, Bool, true, [], refl}
+use Rattle.std.specs.Prelude.{Some}
 use Rattle.std.proofs.lemmas.List.Elements.{All-append, All-nil, All-cons}
 use Rattle.bv_expr.specs.declared.ops.Sort.TheVariants.{Truth}
 use Rattle.bv_expr.specs.declared.ops.Unary.TheVariants as of
 use Rattle.bv_expr.specs.declared.ops.Binary.{Binary}
 use Rattle.bv_expr.specs.declared.ops.Binary.TheVariants as on
-use Rattle.bv_expr.specs.Term.{Term, truth, truth_variable, unary, binary, depth}
-use Rattle.bv_expr.specs.Sorts.{sort_of, truth_sort, binary_sort, unary_sort}
+use Rattle.bv_expr.specs.Term.{Term, truth, truth_variable, unary, binary}
+use Rattle.bv_expr.specs.Sorts.{truth_sort}
 use Rattle.bv_expr.specs.Goal.{variables}
 use Rattle.bv_expr.specs.Propositional.{is_propositional, is_connective, is_not}
 use Rattle.truth_lines.specs.declared.terms.Operator.{Operator}
@@ -42,10 +42,3 @@ applied_fits n op.Or x y h k = both_fit n on.TOr x y refl refl h k
 applied_fits n op.Xor x y h k = both_fit n on.TXor x y refl refl h k
 applied_fits n op.Equal x y h k = both_fit n on.TEq x y refl refl h k
 applied_fits n op.Unequal x y h k = not_fits n (binary on.TEq x y) (both_fit n on.TEq x y refl refl h k)
-
-pub applied_depth : (o : Operator) (x y : Term) (d : ℕ) → depth x ≤ d → depth y ≤ d → depth (applied o x y) ≤ d + 2
-applied_depth op.And x y d h k = omega arith
-applied_depth op.Or x y d h k = omega arith
-applied_depth op.Xor x y d h k = omega arith
-applied_depth op.Equal x y d h k = omega arith
-applied_depth op.Unequal x y d h k = omega arith

@@ -3,7 +3,7 @@ use Rattle.std.proofs.Common.{◌≡◌, ℕ, ◌<◌, List, length, take, arith
 use Rattle.std.specs.Prelude.{IsTrue, All}
 use Rattle.std.specs.List.{prefix_len}
 use Rattle.std.specs.Char.{is_ascii_alphanumeric}
-use Rattle.std.specs.Str.{IsAscii, IsUtf8}
+use Rattle.std.specs.Str.{IsUtf8}
 use Rattle.std.proofs.lemmas.Bool.Decides.{nat_tests}
 use Rattle.std.proofs.lemmas.List.Elements.{All-weaker}
 use Rattle.std.proofs.lemmas.List.{get_or-take, length-take}
@@ -23,5 +23,5 @@ pub letters_pass : (text : List ℕ) (n : ℕ) → n ≡ length (letters_at text
 letters_pass text n e =
     let m : n ≡ prefix_len is_ascii_alphanumeric text = e ∙ length-prefix_len is_ascii_alphanumeric text in
     λ k d h.
-      let within : k < n = omega (arith, length-take n text) in
-      ap is_ascii_alphanumeric (get_or-take n text k d within) ∙ prefix_len_passes is_ascii_alphanumeric text k d (omega arith)
+    let within : k < n = omega (arith, length-take n text) in
+    ap is_ascii_alphanumeric (get_or-take n text k d within) ∙ prefix_len_passes is_ascii_alphanumeric text k d (omega arith)

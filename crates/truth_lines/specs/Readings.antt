@@ -4,6 +4,7 @@ use Rattle.std.specs.Char.{is_ascii_alphabetic, is_ascii_alphanumeric}
 use Rattle.std.specs.List.{list_any}
 use Rattle.bv_lines.specs.Lines.{and_then, behind}
 
+-- a text, as its bytes
 abbrev pub Text : Type 0
 Text = List ℕ
 
@@ -31,6 +32,7 @@ reserved =
     codes "theorem" ∷ codes "example" ∷ codes "import" ∷ codes "open" ∷ codes "by" ∷ codes "if" ∷ codes "then" ∷ codes "else" ∷ codes "true" ∷ codes "false" ∷ codes "True"
     ∷ codes "False" ∷ codes "Bool" ∷ codes "BitVec" ∷ codes "intros" ∷ codes "bv_decide" ∷ codes "bv_check" ∷ []
 
+-- whether a word is one of them
 abbrev pub is_reserved : Text → Bool
 is_reserved word = list_any (λ w. bytes_eq w word) reserved
 
@@ -44,7 +46,7 @@ names_at zero text = None
 names_at (suc n) text =
     and_then (name_at text) (λ x.
     then_or (behind (codes " : Bool)") x.1) (λ rest. Some (x.0 ∷ [], rest))
-      (and_then (behind (codes " ") x.1) (λ rest. option_map (λ more. (x.0 ∷ more.0, more.1)) (names_at n rest))))
+    (and_then (behind (codes " ") x.1) (λ rest. option_map (λ more. (x.0 ∷ more.0, more.1)) (names_at n rest))))
 
 -- whether no two of the names are equal
 abbrev pub are_different : List Text → Bool

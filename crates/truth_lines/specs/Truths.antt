@@ -1,5 +1,5 @@
 -- Lines that state a truth over variables of `Bool`: `HEAD : TERM := by bv_decide`.
-use Rattle.std.specs.Prelude.{ℕ, zero, suc, ◌+◌, Bool, true, false, List, [], ◌∷◌, length, map, Option, Some, None, option_map, nat_eq, bytes_eq, codes, if◌then◌else◌}
+use Rattle.std.specs.Prelude.{ℕ, zero, suc, ◌+◌, true, false, List, [], ◌∷◌, length, map, Option, Some, None, option_map, nat_eq, bytes_eq, codes, if◌then◌else◌}
 use Rattle.bv_expr.specs.declared.ops.Unary.TheVariants as of
 use Rattle.bv_expr.specs.declared.ops.Binary.TheVariants as on
 use Rattle.bv_expr.specs.declared.ops.Sort.TheVariants as sort
@@ -52,14 +52,14 @@ Reading = Text → Option (Term × Text)
 abbrev pub atom_at : Reading → List Text → Reading
 atom_at inner names text =
     then_or (behind (codes "(") text) (λ rest. and_then (inner rest) (λ t. option_map (λ rest. (t.0, rest)) (behind (codes ")") t.1)))
-      (word_atom names text)
+    (word_atom names text)
 
 -- a term: `!` and an atom, or an atom, or two with an operator between them; and what follows it
 abbrev pub term_at : Reading → List Text → Reading
 term_at inner names text =
     then_or (behind (codes "!") text) (λ rest. option_map (λ x. (unary of.TNot x.0, x.1)) (atom_at inner names rest))
-      (and_then (atom_at inner names text) (λ x.
-      then_or (operator_at x.1) (λ o. option_map (λ y. (applied o.0 x.0 y.0, y.1)) (atom_at inner names o.1)) (Some x)))
+    (and_then (atom_at inner names text) (λ x.
+    then_or (operator_at x.1) (λ o. option_map (λ y. (applied o.0 x.0 y.0, y.1)) (atom_at inner names o.1)) (Some x)))
 
 -- a term in brackets, where at most so many may be open at once
 unfoldable pub inside : ℕ → List Text → Reading

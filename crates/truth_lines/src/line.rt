@@ -21,7 +21,10 @@ pub const MOST_BRACKETS: u16 = 400;
 fn truths(alloc: Global, names: Vec<Name>) -> Result<Vec<(Name, Sort)>, AllocError>
     ensures { IfOk result (λ binders. binders.items ≡ map (λ x. (x, Truth)) names.items) }
 {
-    names.into_iter().map(|name| (name, Sort::Truth)).collect(alloc)
+    names
+        .into_iter()
+        .map(|name| (name, Sort::Truth))
+        .collect(alloc)
 }
 
 /// The goal that a term is true for all values of the variables.

@@ -10,8 +10,23 @@ use std::alloc::{AllocError, Global};
 
 /// The words that are no names.
 static RESERVED: [&'static str; 17] = [
-    "theorem", "example", "import", "open", "by", "if", "then", "else", "true", "false", "True",
-    "False", "Bool", "BitVec", "intros", "bv_decide", "bv_check",
+    "theorem",
+    "example",
+    "import",
+    "open",
+    "by",
+    "if",
+    "then",
+    "else",
+    "true",
+    "false",
+    "True",
+    "False",
+    "Bool",
+    "BitVec",
+    "intros",
+    "bv_decide",
+    "bv_check",
 ];
 
 /// The most names that a line binds.
@@ -27,7 +42,9 @@ fn is_reserved(word: &str) -> bool
 fn count_letters(text: &[u8]) -> usize
     ensures { result ≡ length (letters_at text.now) }
 {
-    text.iter().take_while(|c| c.is_ascii_alphanumeric()).count()
+    text.iter()
+        .take_while(|c| c.is_ascii_alphanumeric())
+        .count()
 }
 
 /// Whether a text begins with an ASCII letter.

@@ -25,7 +25,7 @@ names-preserved c =
     record {
       few = omega (arith, ap length c.in_ok-push.ensures.items, length_push c.names.names.items c.in-Some.name, c.names.invariant.few);
       read = rw c.in_ok-push.ensures.items
-        (more c.names.names.items c.names.i c.names.rest.now c.in-Some.name c.in-Some.others.now c.in-Some-behind-2.more.now _ (omega arith) c.names.invariant.read read c.in_default-behind.ensures
+          (more c.names.names.items c.names.i c.names.rest.now c.in-Some.name c.in-Some.others.now c.in-Some-behind-2.more.now _ (omega arith) c.names.invariant.read read c.in_default-behind.ensures
           c.in-Some-behind-2.ensures);
     }
 
