@@ -78,3 +78,7 @@ not_empty n = grind (arith, common_steps)
 pub last_by_length : (id : ℕ) (lits : List Literal) (hints : List ℤ) (n : ℕ) (b : Bool) → n ≡ length lits → nat_eq n 0 ≡ b → judge.is_last (Addition id lits hints) ≡ b
 last_by_length id [] hints n b l e = sym (nat_itself 0) ∙ ap (λ k. nat_eq k 0) (sym l) ∙ e
 last_by_length id (k ∷ lits) hints n b l e = sym (not_empty (length lits)) ∙ ap (λ k. nat_eq k 0) (sym l) ∙ e
+
+pub ok_weaker : {X E : Type 0} (r : Result X E) (P Q : X → Type 0) → ((x : X) → P x → Q x) → IfOk r P → IfOk r Q
+ok_weaker (Ok x) P Q h p = h x p
+ok_weaker (Err y) P Q h p = tt

@@ -26,6 +26,7 @@ use std::marker::Model;
 /// for them. Contracts see the clauses alone: no literal is marked between two lines, after want of memory neither.
 #[derive(Drop)]
 pub struct Judge {
+    alloc: Global,
     known: Known,
     marks: Marks,
 }
@@ -43,6 +44,7 @@ impl Model for Judge {
 
 /// Judges the groups behind hints that made no conflict.
 fn judge_pivot(
+    alloc: Global,
     known: &Known,
     marks: &mut Marks,
     lits: &[Lit],
@@ -57,11 +59,12 @@ fn judge_pivot(
     if let Some(cause) = judge_groups(known, marks, *pivot, groups)? {
         return Ok(Some(cause));
     }
-    Ok(known.missing(marks, *pivot, groups))
+    known.missing(alloc, marks, *pivot, groups)
 }
 
 /// Judges an addition whose id isn't in use.
 fn judge_lits(
+    alloc: Global,
     known: &Known,
     marks: &mut Marks,
     lits: &[Lit],
@@ -77,12 +80,13 @@ fn judge_lits(
     match take_hints(known, marks, first)? {
         Taken::Conflict => Ok(None),
         Taken::Stop(cause) => Ok(Some(cause)),
-        Taken::Open => judge_pivot(known, marks, lits, groups),
+        Taken::Open => judge_pivot(alloc, known, marks, lits, groups),
     }
 }
 
 /// Why an addition is refused, if it is.
 fn judge_add(
+    alloc: Global,
     known: &Known,
     marks: &mut Marks,
     id: u64,
@@ -96,7 +100,7 @@ fn judge_add(
     if known.get(id).is_some() {
         return Ok(Some(Cause::IdInUse));
     }
-    let cause = judge_lits(known, marks, lits, hints);
+    let cause = judge_lits(alloc, known, marks, lits, hints);
     marks.undo_to(0);
     cause
 }
@@ -107,6 +111,7 @@ impl Judge {
         ensures { IfOk result (λ judge. judge ≡ given cnf.now.clauses) }
     {
         Ok(Judge {
+            alloc,
             known: Known::given(alloc, cnf)?,
             marks: Marks::new(alloc, cnf.vars)?,
         })
@@ -116,7 +121,14 @@ impl Judge {
     fn add(&mut self, id: u64, lits: Vec<Lit>, hints: &[i64]) -> Result<Judged, AllocError>
         ensures { IfOk result (λ judged. IsJudged judged self.new (judge.judge self.old (Addition id lits.items hints.now)) (is_last (Addition id lits.items hints.now))) }
     {
-        if let Some(cause) = judge_add(&self.known, &mut self.marks, id, &lits, hints)? {
+        if let Some(cause) = judge_add(
+            self.alloc,
+            &self.known,
+            &mut self.marks,
+            id,
+            &lits,
+            hints,
+        )? {
             return Ok(Judged::Refused(cause));
         }
         let judged = if lits.is_empty() {

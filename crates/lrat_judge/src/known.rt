@@ -1,16 +1,19 @@
 //! The clauses that lines may name, in a map by id: lines add and delete them under ids of their own choice.
 
 ghost use Rattle.std.specs.Prelude.{◌≡◌, None, IfOk, OnOk};
+ghost use Rattle.std.specs.List.{find};
 ghost use Rattle.std.specs.Option.{option_copied, option_map};
 ghost use Rattle.lrat_lines.specs.Judge.{clause_of, add_clause, delete_clauses, given, judge_missing, split_hints};
+ghost use Rattle.lrat_lines.specs.Judge.Cause.{MissingGroup};
 ghost use Rattle.lrat_judge.specs.Judged.{cause_shown};
+ghost use Rattle.lrat_judge.specs.Named.{is_uncovered};
 
 use crate::cause::Cause;
 use crate::marks::Marks;
-use crate::missing::is_missed;
+use crate::missing::{grouped, is_missed};
 use sat_form::{Cnf, Lit};
 use std::alloc::{AllocError, Global};
-use std::collections::BTreeMap;
+use std::collections::{BTreeMap, BTreeSet};
 use std::marker::Model;
 
 /// The clauses that lines may name, by id.
@@ -79,16 +82,31 @@ impl Known {
         Ok(known)
     }
 
-    /// Refuses a line for the first clause with the negated pivot that has no group and no other literal that is true.
-    /// O(number of literals of all clauses), and for each clause with the negated pivot O(number of hints) more.
-    pub(crate) fn missing(&self, marks: &Marks, pivot: Lit, groups: &[i64]) -> Option<Cause>
-        ensures { option_map cause_shown result ≡ judge_missing self.now marks.now pivot (split_hints groups.now).groups }
+    /// Refuses a line for the first clause with the negated pivot that isn't named and has no other literal that is true.
+    fn uncovered(&self, marks: &Marks, pivot: Lit, named: &BTreeSet<u64>) -> Option<Cause>
+        ensures { option_map cause_shown result ≡ option_map (λ e. MissingGroup e.id) (find (is_uncovered marks.now pivot named.now) self.now) }
     {
         for (id, clause) in &self.clauses {
-            if is_missed(marks, pivot, groups, *id, clause) {
+            if is_missed(marks, pivot, named, *id, clause) {
                 return Some(Cause::MissingGroup(*id));
             }
         }
         None
+    }
+
+    /// Refuses a line for the first clause with the negated pivot that has no group and no other literal that is true.
+    /// O(number of hints, and of the literals of all clauses), and for g groups O(log g) for each group and for each
+    /// clause with the negated pivot.
+    pub(crate) fn missing(
+        &self,
+        alloc: Global,
+        marks: &Marks,
+        pivot: Lit,
+        groups: &[i64],
+    ) -> Result<Option<Cause>, AllocError>
+        ensures { IfOk result (λ cause. option_map cause_shown cause ≡ judge_missing self.now marks.now pivot (split_hints groups.now).groups) }
+    {
+        let named = grouped(alloc, groups)?;
+        Ok(self.uncovered(marks, pivot, &named))
     }
 }
