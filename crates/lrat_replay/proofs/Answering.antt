@@ -1,14 +1,14 @@
 -- From steps to answers.
-use Rattle.std.proofs.Common.{◌≡◌, ℕ, ◌+◌, ◌-◌, ◌<◌, ◌≤◌, Bool, true, false, List, [], ◌∷◌, ◌++◌, length, take, refl, ap, sym, ◌∙◌, subst, arith, append_assoc, length-append}
+use Rattle.std.proofs.Common.{◌≡◌, ℕ, ◌+◌, ◌-◌, ◌<◌, ◌≤◌, Bool, true, false, List, [], ◌++◌, length, take, refl, ap, sym, subst, arith, append_assoc, length-append}
 use Rattle.std.specs.Prelude.{Option, None, Some, Result, Ok, Err}
-use Rattle.bvd_host.specs.Given.{Gives, GivesAtMost}
-use Rattle.lrat_lines.specs.Replay.{Verdict, ComesTo, lines_within}
+use Rattle.bvd_host.specs.Given.{Gives}
+use Rattle.lrat_lines.specs.Replay.{Verdict, ComesTo}
 use Rattle.lrat_lines.specs.Replay.Verdict.{Accepted, Refused, Undecided}
-use Rattle.lrat_replay.specs.Answer.{IsAnswerOn, refusal}
+use Rattle.lrat_replay.specs.Answer.{IsAnswerOn}
 use Rattle.lrat_replay.specs.Leads.{Leads}
 use Rattle.lrat_replay.specs.Memory.{IsMemory, IsOutside}
 use Rattle.lrat_replay.specs.Standing.{WillAnswer, WillComeTo}
-use Rattle.lrat_replay.specs.Told.{Brings, IsAbove, OfText}
+use Rattle.lrat_replay.specs.Told.{Brings, OfText}
 use Rattle.lrat_replay.specs.declared.progress.Progress.{Progress}
 use Rattle.lrat_replay.specs.declared.stop.ReplayStop.{ReplayStop}
 use Rattle.lrat_replay.specs.declared.stop.ReplayStop.TheVariants.{Memory, TooLong}

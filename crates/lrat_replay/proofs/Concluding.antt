@@ -1,6 +1,6 @@
 -- From the answer of a run to what `replay` says.
-use Rattle.std.proofs.Common.{◌≡◌, ℕ, ◌+◌, ◌<◌, ◌≤◌, Bool, true, false, List, [], ◌∷◌, ◌++◌, length, refl, ap, sym, ◌∙◌, subst, arith, ⊎_elim}
-use Rattle.std.specs.Prelude.{Option, None, Some, Result, Ok, Err, IsErrOf, IsOk, nat_le}
+use Rattle.std.proofs.Common.{◌≡◌, ℕ, ◌+◌, ◌<◌, ◌≤◌, List, [], ◌++◌, length, refl, ap, ◌∙◌, subst, arith, ⊎_elim}
+use Rattle.std.specs.Prelude.{Option, None, Some, Result, Ok, Err, IsErrOf, IsOk}
 use Rattle.std.proofs.lemmas.Bool.Decides.{leb_tells}
 use Rattle.sat_form.specs.Literals.{Literal}
 use Rattle.sat_form.specs.Truth.{HaveNoValues}
@@ -9,8 +9,8 @@ use Rattle.lrat_lines.specs.Laws.{AcceptedIsChecked, ChecksRefute}
 use Rattle.lrat_lines.specs.Lines.{Line}
 use Rattle.lrat_lines.specs.Replay.{Verdict, ComesTo, TextComesTo, lines_within}
 use Rattle.lrat_lines.specs.Replay.Verdict.{Accepted, Refused, Undecided}
-use Rattle.lrat_replay.specs.Answer.{Answers, IsAnswer, IsAnswerOn, IsFromText, refusal}
-use Rattle.lrat_replay.specs.Memory.{IsMemory, IsOutside}
+use Rattle.lrat_replay.specs.Answer.{Answers, IsAnswer, IsAnswerOn, IsFromText}
+use Rattle.lrat_replay.specs.Memory.{IsOutside}
 use Rattle.lrat_replay.specs.Standing.{WillAnswer}
 use Rattle.lrat_replay.specs.Told.{Ends, IsAbove, OfText}
 use Rattle.lrat_replay.specs.declared.progress.Progress.{Progress}

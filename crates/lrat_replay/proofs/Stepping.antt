@@ -1,12 +1,12 @@
 -- What one line comes to.
-use Rattle.std.proofs.Common.{◌≡◌, ℕ, ◌+◌, ◌⊎◌, inl, inr, Bool, true, false, List, [], ◌∷◌, ◌++◌, length, refl, ap, sym, ◌∙◌, subst, nat_eq, arith, append_assoc, length-append}
+use Rattle.std.proofs.Common.{◌≡◌, ℕ, ◌+◌, inl, inr, Bool, true, false, List, [], ◌∷◌, ◌++◌, length, refl, ap, sym, ◌∙◌, subst, nat_eq, arith, append_assoc, length-append}
 use Rattle.std.specs.Prelude.{Result, Ok, Err, IsErrOf}
 use Rattle.std.proofs.lemmas.List.Elements.{All-append}
 use Rattle.lrat_lines.specs.Lines.{Line, IsLine}
 use Rattle.lrat_lines.specs.Judge.{Clauses, Cause, judge, is_last}
 use Rattle.lrat_lines.specs.Replay.{Fault, Verdict, ComesTo, lines_within}
 use Rattle.lrat_lines.specs.Replay.Fault.{Malformed, Because}
-use Rattle.lrat_lines.specs.Replay.Verdict.{Accepted, Refused, Undecided}
+use Rattle.lrat_lines.specs.Replay.Verdict.{Accepted, Refused}
 use Rattle.lrat_lines.specs.Judge.Cause.{IdInUse, NoClause, NotUnit, NoConflict, MissingGroup, StrangeGroup}
 use Rattle.lrat_replay.specs.Answer.{refusal}
 use Rattle.lrat_replay.specs.Leads.{Leads}

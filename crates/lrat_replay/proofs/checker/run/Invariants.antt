@@ -1,4 +1,4 @@
-use Rattle.std.proofs.Common.{ℕ, ◌≡◌, ◌+◌, ◌^◌, ◌<◌, ◌≤◌, List, length, vec_len}
+use Rattle.std.proofs.Common.{◌≡◌, ◌+◌, ◌^◌, ◌<◌, ◌≤◌, length, vec_len}
 use Rattle.std.specs.Prelude.{Result}
 use Rattle.lrat_replay.specs.Standing.{WillAnswer}
 use Rattle.lrat_replay.specs.Told.{IsAbove, OfText}

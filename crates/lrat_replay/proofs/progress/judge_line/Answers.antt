@@ -1,9 +1,6 @@
-use Rattle.std.proofs.Common.{◌≡◌, ◌+◌, ◌∷◌, ap, refl}
+use Rattle.std.proofs.Common.{ap, refl}
 use Rattle.std.specs.Prelude.{Err}
 use Rattle.lrat_judge.specs.Judged.{cause_shown}
-use Rattle.lrat_lines.specs.Judge.{judge}
-use Rattle.lrat_lines.specs.Lines.{IsLine}
-use Rattle.lrat_lines.specs.Replay.{ComesTo}
 use Rattle.lrat_lines.specs.Replay.Fault.{Because, Malformed}
 use Rattle.lrat_lines.specs.Seen.{seen}
 use Rattle.lrat_replay.proofs.Stepping.{malformed, refused_line}

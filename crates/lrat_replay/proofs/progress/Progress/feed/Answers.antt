@@ -1,8 +1,8 @@
-use Rattle.std.proofs.Common.{ℕ, ◌≡◌, ◌+◌, ◌∷◌, ◌++◌, List, [], length, refl, arith, rules, length-append}
+use Rattle.std.proofs.Common.{ℕ, ◌≡◌, ◌+◌, ◌++◌, List, [], length, refl, arith, rules, length-append}
 use Rattle.std.specs.Prelude.{Ok, Err}
 use Rattle.std.proofs.lemmas.Grind.{common_steps}
 use Rattle.std.proofs.lemmas.Result.{err_from_is_err_and}
-use Rattle.lrat_lines.specs.Replay.{ComesTo, Verdict, lines_within}
+use Rattle.lrat_lines.specs.Replay.{ComesTo, lines_within}
 use Rattle.lrat_lines.specs.Replay.Verdict.{Accepted}
 use Rattle.lrat_replay.specs.Standing.{WillComeTo}
 use Rattle.lrat_replay.proofs.Stepping.{accepted, error_back, line_leads, onward}

@@ -1,4 +1,4 @@
-use Rattle.std.proofs.Common.{ℕ, ◌≡◌, List, [], refl, ap, arith}
+use Rattle.std.proofs.Common.{◌≡◌, [], refl, ap, arith}
 use Rattle.std.specs.Prelude.{Err}
 use Rattle.lrat_lines.specs.Replay.Verdict.{Accepted, Refused, Undecided}
 use Rattle.lrat_replay.specs.Standing.{WillComeTo}

@@ -1,4 +1,4 @@
-use Rattle.std.proofs.Common.{ℕ, ◌≡◌, ◌+◌, ◌<◌, ◌∷◌, ◌++◌, List, [], length, rules, subst, sym}
+use Rattle.std.proofs.Common.{ℕ, ◌≡◌, ◌+◌, ◌<◌, List, [], length, rules, subst, sym}
 use Rattle.lrat_lines.specs.Replay.{ComesTo}
 use Rattle.lrat_lines.specs.Replay.Verdict.{Undecided}
 use Rattle.lrat_replay.specs.Leads.{Leads}
