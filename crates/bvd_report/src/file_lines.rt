@@ -59,7 +59,7 @@ fn push_file(
 }
 
 /// Adds the lines of files, whose goals are numbered from 1 on.
-pub fn push_files(
+pub(crate) fn push_files(
     out: &mut Vec<u8>,
     command: Command,
     quiet: bool,

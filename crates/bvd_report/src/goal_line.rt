@@ -102,7 +102,12 @@ fn push_clauses(out: &mut Vec<u8>, number: usize, told: &Told) -> io::Result<()>
 }
 
 /// Adds the line of the goal of a number.
-pub fn push_goal(out: &mut Vec<u8>, command: Command, number: usize, line: &Line) -> io::Result<()>
+pub(crate) fn push_goal(
+    out: &mut Vec<u8>,
+    command: Command,
+    number: usize,
+    line: &Line,
+) -> io::Result<()>
     ensures { OnOk result (out.new.items ≡ out.old.items ++ goal_line (command_shown command) number (line_shown line.now)) }
 {
     let name = line.name.as_str();

@@ -1,11 +1,11 @@
 //! The report of a run: what is told of each goal and each file, the lines that say so by command, and the exit status. What was done is put into values first and written afterwards, so that the report, the certificates and the status are functions of the same values.
 #![tactic(auto)]
 
-pub mod file_lines;
+mod file_lines;
 pub mod goal_line;
 pub mod report;
 pub mod status;
-pub mod summary;
+mod summary;
 #[cfg(test)]
 mod tests;
 pub mod told;

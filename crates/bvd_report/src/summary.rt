@@ -11,7 +11,7 @@ use std::io::Write;
 
 /// How the last line counts a goal.
 #[derive(Clone, Copy, Debug, PartialEq, Eq)]
-pub enum Verdict {
+enum Verdict {
     Holds,
     Fails,
     Other,
@@ -82,7 +82,11 @@ fn push_counts(out: &mut Vec<u8>, holds: &str, fails: &str, parts: &[Part<'_>]) 
 }
 
 /// Adds the last line of a command.
-pub fn push_summary(out: &mut Vec<u8>, command: Command, parts: &[Part<'_>]) -> io::Result<()>
+pub(crate) fn push_summary(
+    out: &mut Vec<u8>,
+    command: Command,
+    parts: &[Part<'_>],
+) -> io::Result<()>
     requires { length (all_goals (parts_shown parts.now)) < 2 ^ 63 }
     ensures { OnOk result (out.new.items ≡ out.old.items ++ summary (command_shown command) (all_goals (parts_shown parts.now))) }
 {
