@@ -1,0 +1,6 @@
+pub mod Turns
+pub mod Numbers
+pub mod Sifting
+pub mod Texts
+pub mod Ending
+pub mod Telling
