@@ -28,7 +28,7 @@ prefix_within text = go (has_prefix 120 text) (has_prefix 98 text) refl refl
 below : (a b : ℕ) → nat_lt a b ≡ true → a < b
 below a b h = grind (arith, common_steps)
 
-not_below : (a b : ℕ) → a < b → nat_lt a b ≡ true
+pub not_below : (a b : ℕ) → a < b → nat_lt a b ≡ true
 not_below a b h = grind (arith, common_steps)
 
 -- where all bytes are read as digits, all are digits
@@ -95,10 +95,10 @@ no_prefix letter [] h d = refl
 no_prefix letter (b ∷ []) h d = refl
 no_prefix letter (b ∷ c ∷ bs) h d = other_letter letter b c h d.1.0
 
-small_is : (n : ℕ) → n < 2 ^ 128 → small n ≡ Some n
+pub small_is : (n : ℕ) → n < 2 ^ 128 → small n ≡ Some n
 small_is n h = rw (not_below n (2 ^ 128) h) refl
 
-same_length : (n : ℕ) → (n == n) ≡ true
+pub same_length : (n : ℕ) → (n == n) ≡ true
 same_length n = grind (arith, common_steps)
 
 -- the digits that a number is written in read as that number

@@ -7,7 +7,7 @@ mod print;
 
 pub use cursor::{Cursor, Place};
 pub use numbers::{NumberStop, number};
-pub use print::push_number;
+pub use print::{push_hex, push_number};
 
 #[cfg(test)]
 mod tests;

@@ -29,6 +29,9 @@ fn writes_numbers_and_walks_a_text(rt: HostRuntime) -> Result<(), Fail> {
     let mut out = Vec::new(rt.alloc());
     push_number(&mut out, 1207)?;
     assert!(rt; out.as_slice() == b"1207".as_slice());
+    push_hex(&mut out, 0xff, 2)?;
+    push_hex(&mut out, 5, 4)?;
+    assert!(rt; out.as_slice() == b"12070xff0x0005".as_slice());
     let mut cursor = Cursor::new("a\nλb");
     for (character, line, column) in [('a', 1, 2), ('\n', 2, 1), ('λ', 2, 2), ('b', 2, 3)] {
         assert!(rt; cursor.peek() == Some(character));
