@@ -8,3 +8,6 @@ mod checking;
 
 pub use checked::{Checked, DeviceFailed, Fault};
 pub use checking::check;
+
+#[cfg(test)]
+mod tests;
