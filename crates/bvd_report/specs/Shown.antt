@@ -25,7 +25,7 @@ fault_shown (fault.StrangeGroup id) = replay.Fault.Because (judge.Cause.StrangeG
 
 abbrev pub told_shown : Told → spec.Told
 told_shown (told.Proved text) = spec.Told.Proved text.items
-told_shown (told.False values) = spec.Told.False (string_bytes values)
+told_shown (told.False values) = spec.Told.False values.items
 told_shown (told.Budget spent) = spec.Told.Budget spent
 told_shown told.Deep = spec.Told.Deep
 told_shown told.Large = spec.Told.Large

@@ -35,14 +35,14 @@ fn push_fault(out: &mut Vec<u8>, fault: Fault) -> io::Result<()>
 }
 
 /// Adds that a goal is false at values.
-fn push_false(out: &mut Vec<u8>, number: usize, values: &str) -> io::Result<()>
+fn push_false(out: &mut Vec<u8>, number: usize, values: &[u8]) -> io::Result<()>
     ensures { OnOk result (out.new.items ≡ out.old.items ++ told_text number (spec.Told.False values.now)) }
 {
     if values.is_empty() {
-        write!(out, "false")
-    } else {
-        write!(out, "false {values}")
+        return write!(out, "false");
     }
+    write!(out, "false ")?;
+    Ok(out.extend_from_slice(values)?)
 }
 
 /// Adds which line of a certificate is refused, and why.
@@ -75,7 +75,7 @@ fn push_told(out: &mut Vec<u8>, number: usize, told: &Told) -> io::Result<()>
 {
     match told {
         Told::Proved(_) => write!(out, "proved goal-{number}.lrat"),
-        Told::False(values) => push_false(out, number, values.as_str()),
+        Told::False(values) => push_false(out, number, values),
         Told::Budget(spent) => write!(out, "budget {spent}"),
         Told::Deep => write!(out, "deep"),
         Told::Large => write!(out, "large"),

@@ -67,14 +67,9 @@ fn answers_of_searches(rt: HostRuntime) -> Result<(), AllocError> {
         let mut more = Vec::new(alloc);
         let text = Vec::from_slice(alloc, b"3 0 1 2 0\n")?;
         add(alloc, &mut goals, "Nat.sum", Told::Proved(text))?;
-        let values = String::from_str(alloc, "x = 0xff#8, a = true")?;
+        let values = Vec::from_slice(alloc, b"x = 0xff#8, a = true")?;
         add(alloc, &mut goals, "wrong", Told::False(values))?;
-        add(
-            alloc,
-            &mut goals,
-            "example",
-            Told::False(String::new(alloc)),
-        )?;
+        add(alloc, &mut goals, "example", Told::False(Vec::new(alloc)))?;
         add(alloc, &mut goals, "long", Told::Budget(10_000_000))?;
         add(alloc, &mut goals, "tall", Told::Deep)?;
         add(alloc, &mut goals, "wide", Told::Large)?;

@@ -28,7 +28,7 @@ pub enum Told {
     /// It is proved by a certificate with this text.
     Proved(Vec<u8>),
     /// It is false at these values of its variables, as the report writes them; without variables they are empty.
-    False(String),
+    False(Vec<u8>),
     /// Its search spent its steps, this many.
     Budget(u64),
     /// It has a gate that is too deep.
