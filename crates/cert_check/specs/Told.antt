@@ -7,7 +7,7 @@ use Rattle.cert_check.specs.Shown.{fault_shown}
 use Rattle.cert_check.specs.declared.checked.Checked.{Checked}
 use Rattle.cert_check.specs.declared.checked.Checked.TheVariants.{Accepted, Refused, NoEmptyClause, Absent, OutOfMemory}
 
--- a replay that ended so is told so
+-- this outcome tells how the replay ended; want of memory is not told where the text decided
 abbrev pub IsTold : Result (Unit {0}) ReplayStop → Checked → Type 0
 IsTold replayed Accepted = replayed ≡ Ok tt
 IsTold replayed (Refused line fault) = replayed ≡ Err (refusal line (fault_shown fault))
