@@ -2,3 +2,4 @@ pub mod Splitting
 pub mod Stepping
 pub mod Answering
 pub mod Concluding
+pub mod Taking

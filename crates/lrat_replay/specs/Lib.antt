@@ -4,3 +4,4 @@ pub mod Line
 pub mod Leads
 pub mod Standing
 pub mod Told
+pub mod Taken

@@ -1,11 +1,12 @@
 //! The checker: reads the text piece by piece, and answers as soon as the lines decide.
 
-ghost use Rattle.std.specs.Prelude.{ℕ, ◌≡◌, ◌+◌, ◌^◌, ◌<◌, ◌≤◌, List, Some, IfErr, IfOk, IsErrOf, IsOk, OnOk, false, length, vec_len};
+ghost use Rattle.std.specs.Prelude.{ℕ, ◌≡◌, ◌+◌, ◌-◌, ◌^◌, ◌<◌, ◌≤◌, List, Some, IfErr, IfOk, IsErrOf, IsOk, OnErr, false, length, vec_len};
 ghost use Rattle.bvd_host.specs.Causes.{LeavesUnlessFailed, Rose};
 ghost use Rattle.bvd_host.specs.Given.{Gives, GivesAtMost};
 ghost use Rattle.sat_form.specs.Truth.{HaveNoValues};
 ghost use Rattle.lrat_replay.specs.Answer.{Answers, IsFromText};
 ghost use Rattle.lrat_replay.specs.Standing.{WillAnswer};
+ghost use Rattle.lrat_replay.specs.Taken.{TookAtMost};
 ghost use Rattle.lrat_replay.specs.Memory.{IsOutside};
 ghost use Rattle.lrat_replay.specs.Told.{Brings, Ends, IsAbove, OfText};
 
@@ -28,9 +29,11 @@ fn read_piece<R: Source>(
     requires some { 0 < wanted }
     requires within { wanted ≤ length piece.old }
     ensures count { IfOk result (λ n. n ≤ length piece.new) }
+    ensures most { IfOk result (λ n. n ≤ wanted) }
     ensures bytes { IfOk result (λ n. Gives (R.left source.old) (R.left source.new) n piece.new) }
     ensures room { IfOk result (λ n. GivesAtMost (R.room source.old) (R.room source.new) n) }
     ensures stop { IfErr result IsOutside }
+    ensures err { OnErr result (R.left source.new ≡ R.left source.old) }
     ensures fault { IsErrOf result ReplayStop.ReadFault → Rose (R.faults source.old) (R.faults source.new) }
     ensures spared { LeavesUnlessFailed ReplayStop.ReadFault (R.faults source.old) (R.faults source.new) result }
     ensures later { R.faults source.old ≤ R.faults source.new }
@@ -54,11 +57,13 @@ fn advance<R: Source>(
     piece: &mut [u8],
 ) -> Result<bool, ReplayStop>
     requires bytes { progress.old.judged + vec_len progress.old.begun + progress.old.left < 2 ^ 64 }
-    requires piece { length piece.old ≡ 65536 }
+    requires piece { length piece.old ≡ PIECE }
     ensures bytes { IfOk result (λ ended. ended ≡ false → progress.new.judged + vec_len progress.new.begun + progress.new.left < 2 ^ 64) }
     ensures shorter { IfOk result (λ ended. ended ≡ false → progress.new.left < progress.old.left) }
     ensures answers { Brings result (λ r. OfText (R.left source.old) (λ text. WillAnswer progress.old text r)) (λ r. OfText (R.left source.new) (λ text. WillAnswer progress.new text r)) }
     ensures too_long { IsErrOf result ReplayStop.TooLong → IsAbove (R.room source.old) progress.old.left }
+    ensures taken { TookAtMost (R.left source.old) (R.left source.new) (progress.old.left + 1) }
+    ensures went { IfOk result (λ ended. ended ≡ false → TookAtMost (R.left source.old) (R.left source.new) (progress.old.left - progress.new.left)) }
     ensures room { IfOk result (λ ended. ended ≡ false → IsAbove (R.room source.new) progress.new.left → IsAbove (R.room source.old) progress.old.left) }
     ensures fault { IsErrOf result ReplayStop.ReadFault → Rose (R.faults source.old) (R.faults source.new) }
     ensures spared { LeavesUnlessFailed ReplayStop.ReadFault (R.faults source.old) (R.faults source.new) result }
@@ -80,6 +85,7 @@ fn advance<R: Source>(
 fn run<R: Source>(alloc: Global, progress: &mut Progress, source: &mut R) -> Result<(), ReplayStop>
     requires { progress.old.judged + vec_len progress.old.begun + progress.old.left < 2 ^ 64 }
     ensures answers { Ends result (λ r. OfText (R.left source.old) (λ text. WillAnswer progress.old text r)) }
+    ensures taken { TookAtMost (R.left source.old) (R.left source.new) (progress.old.left + 1) }
     ensures too_long { IsErrOf result ReplayStop.TooLong → IsAbove (R.room source.old) progress.old.left }
     ensures fault { IsErrOf result ReplayStop.ReadFault → Rose (R.faults source.old) (R.faults source.new) }
     ensures spared { LeavesUnlessFailed ReplayStop.ReadFault (R.faults source.old) (R.faults source.new) result }
@@ -101,8 +107,7 @@ fn run<R: Source>(alloc: Global, progress: &mut Progress, source: &mut R) -> Res
 ///
 /// The answer is the one of the text, however the source cuts it: Ok exactly where all lines up to the first empty clause
 /// check, and then no values satisfy the clauses; a refusal exactly where that line is the first one that doesn't check;
-/// `NoEmpty` where the text ends before; `TooLong` where a byte behind the first `most` ones comes before. `ReadFault` comes
-/// only where a read of this call failed. Each line is judged as soon as it is whole, and at most 65,536 bytes are read at
+/// X is judged as soon as it is whole, and at most 65,536 bytes are read at
 /// once. Time: the reads, the bytes taken, and what judging takes. Memory: the clauses, one line, and one piece.
 pub fn replay<R: Source>(
     alloc: Global,
@@ -116,6 +121,7 @@ pub fn replay<R: Source>(
     ensures told_or_not { IsFromText result → (text : List ℕ) × Answers cnf.now.clauses most text result }
     ensures refuted { IsOk result → HaveNoValues cnf.now.clauses }
     ensures short { (room : ℕ) → R.room source.old ≡ Some room → room ≤ most → IsErrOf result ReplayStop.TooLong → ⊥ }
+    ensures taken { TookAtMost (R.left source.old) (R.left source.new) (most + 1) }
     ensures fault { IsErrOf result ReplayStop.ReadFault → Rose (R.faults source.old) (R.faults source.new) }
     // No read failed unless the answer says so.
     ensures unfailing { IsFromText result → R.faults source.new ≡ R.faults source.old }

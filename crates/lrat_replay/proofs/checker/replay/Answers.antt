@@ -1,3 +1,6 @@
+use Rattle.std.proofs.Common.{ℕ, ◌+◌, refl, subst}
+use Rattle.lrat_replay.specs.Taken.{TookAtMost}
+use Rattle.lrat_replay.proofs.Taking.{took_none}
 use Rattle.lrat_lines.specs.Judge.{given}
 use Rattle.lrat_replay.proofs.Concluding.{exactly, never_short, of_some, refutes}
 use Rattle.lrat_replay.proofs.checker.replay.Goals as goal
@@ -20,3 +23,10 @@ returns-clause-refuted g c =
 pub returns-clause-short : goal.returns-clause-short
 returns-clause-short g c =
     never_short c.run.result c.args.most c.in_ok-progress.progress (g.R.Source.room c.args.source.now) c.in_ok-progress.ensures.left c.run.ensures.too_long
+
+pub returns-in_err-progress-clause-taken : goal.returns-in_err-progress-clause-taken
+returns-in_err-progress-clause-taken g c = took_none (g.R.Source.left c.args.source.now) (g.R.Source.left c.args.source.now) (c.args.most + 1) refl
+
+pub returns-clause-taken : goal.returns-clause-taken
+returns-clause-taken g c =
+    subst (λ (n : ℕ). TookAtMost (g.R.Source.left c.args.source.now) (g.R.Source.left c.run.new.source) (n + 1)) c.in_ok-progress.ensures.left c.run.ensures.taken

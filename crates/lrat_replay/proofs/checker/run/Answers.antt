@@ -1,4 +1,4 @@
-use Rattle.std.proofs.Common.{ℕ, ◌≡◌, ◌+◌, List, length, ◌∙◌, ap, arith, take, ◌++◌, length-append}
+use Rattle.std.proofs.Common.{ℕ, ◌≡◌, ◌+◌, ◌-◌, List, length, ◌∙◌, ap, refl, sym, arith, take, ◌++◌, length-append}
 use Rattle.std.proofs.lemmas.List.{length-take-le}
 use Rattle.std.specs.Prelude.{Ok, Err}
 use Rattle.std.proofs.lemmas.Result.{err_from_is_err_and}
@@ -6,6 +6,7 @@ use Rattle.lrat_replay.specs.Standing.{WillAnswer}
 use Rattle.lrat_replay.specs.Told.{OfText}
 use Rattle.lrat_replay.specs.declared.stop.ReplayStop.TheVariants.{ReadFault, TooLong}
 use Rattle.lrat_replay.proofs.Answering.{ended_ok, left_open, memory_outside}
+use Rattle.lrat_replay.proofs.Taking.{took_more, took_none}
 use Rattle.lrat_replay.proofs.checker.run.Goals as goal
 
 -- a piece that is written keeps its length
@@ -45,9 +46,38 @@ pieces-preserved g c = record {
   answers = λ r behind. c.pieces.invariant.answers r (left_open c.in_ok-advance.field-0
       (λ r. OfText (g.R.Source.left c.pieces.source) (λ text. WillAnswer c.pieces.progress text r))
       (λ r. OfText (g.R.Source.left c.advance.new.source) (λ text. WillAnswer c.advance.new.progress text r)) c.if-branch.false c.in_ok-advance.ensures.answers r behind);
+  within = let less = c.in_ok-advance.ensures.shorter c.if-branch.false in omega (arith, less, c.pieces.invariant.within);
+  taken =
+      let less = c.in_ok-advance.ensures.shorter c.if-branch.false in
+      took_more (g.R.Source.left c.args.source.now) (g.R.Source.left c.pieces.source) (g.R.Source.left c.advance.new.source) (c.args.progress.now.left - c.pieces.progress.left) (c.pieces.progress.left - c.advance.new.progress.left) (c.args.progress.now.left - c.advance.new.progress.left) c.pieces.invariant.taken (c.in_ok-advance.ensures.went c.if-branch.false) (omega (arith, less, c.pieces.invariant.within));
   room = λ above. c.pieces.invariant.room (c.in_ok-advance.ensures.room c.if-branch.false above);
   faults = c.in_ok-advance.ensures.spared (λ failed. cc) ∙ c.pieces.invariant.faults;
   missing = omega (arith, c.advance.ensures.missing, c.pieces.invariant.missing);
   base = c.advance.ensures.base ∙ c.pieces.invariant.base;
   lender = c.advance.ensures.lender ∙ c.pieces.invariant.lender;
 }
+
+pub pieces-init : goal.pieces-init
+pieces-init g c = record {
+  bytes = c.requires;
+  piece = sym c.in_ok-piece.piece.ok.0 ∙ c.in_ok-piece.ensures.len;
+  answers = λ r h. h;
+  within = omega arith;
+  taken = took_none (g.R.Source.left c.args.source.now) (g.R.Source.left c.args.source.now) (c.args.progress.now.left - c.args.progress.now.left) refl;
+  room = λ above. above;
+  faults = refl;
+  missing = omega arith;
+  base = refl;
+  lender = refl;
+}
+
+pub returns-in_err-piece-clause-taken : goal.returns-in_err-piece-clause-taken
+returns-in_err-piece-clause-taken g c = took_none (g.R.Source.left c.args.source.now) (g.R.Source.left c.args.source.now) (c.args.progress.now.left + 1) refl
+
+pub returns-in_err-advance-clause-taken : goal.returns-in_err-advance-clause-taken
+returns-in_err-advance-clause-taken g c =
+    took_more (g.R.Source.left c.args.source.now) (g.R.Source.left c.pieces.source) (g.R.Source.left c.advance.new.source) (c.args.progress.now.left - c.pieces.progress.left) (c.pieces.progress.left + 1) (c.args.progress.now.left + 1) c.pieces.invariant.taken c.advance.ensures.taken (omega (arith, c.pieces.invariant.within))
+
+pub returns-then-branch-clause-taken : goal.returns-then-branch-clause-taken
+returns-then-branch-clause-taken g c =
+    took_more (g.R.Source.left c.args.source.now) (g.R.Source.left c.pieces.source) (g.R.Source.left c.advance.new.source) (c.args.progress.now.left - c.pieces.progress.left) (c.pieces.progress.left + 1) (c.args.progress.now.left + 1) c.pieces.invariant.taken c.advance.ensures.taken (omega (arith, c.pieces.invariant.within))

@@ -1,6 +1,7 @@
-use Rattle.std.proofs.Common.{◌≡◌, ◌+◌, ◌^◌, ◌<◌, ◌≤◌, length, vec_len}
+use Rattle.std.proofs.Common.{◌≡◌, ◌+◌, ◌-◌, ◌^◌, ◌<◌, ◌≤◌, length, vec_len}
 use Rattle.std.specs.Prelude.{Result}
 use Rattle.lrat_replay.specs.Standing.{WillAnswer}
+use Rattle.lrat_replay.specs.Taken.{TookAtMost}
 use Rattle.lrat_replay.specs.Told.{IsAbove, OfText}
 use Rattle.lrat_replay.specs.declared.stop.ReplayStop.{ReplayStop}
 use Rattle.lrat_replay.proofs.checker.run.Given as goal
@@ -10,6 +11,8 @@ invariant-pieces g l = record {
   bytes : l.progress.judged + vec_len l.progress.begun + l.progress.left < 2 ^ 64;
   piece : length l.piece.items ≡ 65536;
   answers : (r : Result (Unit {0}) ReplayStop) → OfText (g.R.Source.left l.source) (λ text. WillAnswer l.progress text r) → OfText (g.R.Source.left l.initial.source) (λ text. WillAnswer l.initial.progress text r);
+  within : l.progress.left ≤ l.initial.progress.left;
+  taken : TookAtMost (g.R.Source.left l.initial.source) (g.R.Source.left l.source) (l.initial.progress.left - l.progress.left);
   room : IsAbove (g.R.Source.room l.source) l.progress.left → IsAbove (g.R.Source.room l.initial.source) l.initial.progress.left;
   faults : g.R.Source.faults l.source ≡ g.R.Source.faults l.initial.source;
   missing : g.R.Source.missing l.initial.source ≤ g.R.Source.missing l.source;
