@@ -1,13 +1,18 @@
 -- What follows where no device fails.
-use Rattle.std.proofs.Common.{◌≡◌, ◌⊎◌, inl, inr, ℕ, ◌≤◌, ◌≢◌, max, List, [], ◌∷◌, ◌++◌, refl, sym, ap, ◌∙◌, subst, arith, Some, None}
+use Rattle.std.proofs.Common.{◌≡◌, ◌⊎◌, inl, inr, ℕ, ◌+◌, ◌≤◌, ◌≢◌, max, length, List, [], ◌∷◌, ◌++◌, refl, sym, ap, ◌∙◌, subst, arith, Some, None}
 use Rattle.std.specs.Prelude.{Option, option_map}
 use Rattle.bvd_host.specs.Files.{Files}
 use Rattle.bvd_host.specs.Causes.{Rose}
 use Rattle.bvd_host.specs.Outside.{Outside, KeeperFailed, SinkFailed, IsHonest}
-use Rattle.bvd_words.specs.Requests.{Request}
+use Rattle.bv_lines.specs.Statement.{Statement}
+use Rattle.bvd_words.specs.Requests.{Command, Prove, Alone, Check, Cnf, Request}
+use Rattle.bvd_report.specs.Report.{Told, Proved, False, Budget, Deep, Large, OutOfMemory, Clauses, Accepted, Refused, NoEmptyClause, AbsentCertificate, Line, Found, Part, goals_of, report, certificates, status_of, found_status, goals_status, told_status}
+use Rattle.goal_files.specs.declared.file.Form.{Form}
 use Rattle.bvd_top.specs.Words.{usage}
-use Rattle.bvd_top.specs.Report.{Told, Proved, False, Line, Found, Part, report, certificates, with_all, status_of, found_status, goals_status, told_status}
-use Rattle.bvd_top.specs.Parts.{ArePartsOf}
+use Rattle.bvd_top.specs.Storing.{with_all}
+use Rattle.bvd_top.specs.Stated.{Stated, Absent, NotYet, Goals, Read, AreRead}
+use Rattle.bvd_top.specs.Told.{form_of, IsTold, AreTold}
+use Rattle.bvd_top.specs.Parts.{IsFound, AreFound, ArePartsOf}
 use Rattle.bvd_top.specs.Ending.{Stops, Tells, AnsweredIf, Does}
 
 not_stopped : (F : Type 0) (status : ℕ) → ¬ F → status ≢ 7 → Stops F status → ⊥
@@ -20,11 +25,44 @@ whole text added own status before after told holds seven (inl t) = (t.0 ∙ ap 
 whole text added own status before after told holds seven (inr t) = absurd (not_stopped (SinkFailed before after) status holds seven t.2)
 
 -- where the files are told, nothing hangs on missing files
-found_told : (files : Files) (m n : Type 0) (names : List (List ℕ)) (parts : List Part) → ArePartsOf (Some files) m names parts → ArePartsOf (Some files) n names parts
-found_told files m n [] [] are = are
-found_told files m n [] (part ∷ parts) are = are
-found_told files m n (name ∷ names) [] are = are
-found_told files m n (name ∷ names) (part ∷ parts) are = (are.0, are.1, found_told files m n names parts are.2)
+reads_told : (form : Form) (files : Files) (m n : Type 0) (names : List (List ℕ)) (reads : List Read) → AreRead form (Some files) m names reads → AreRead form (Some files) n names reads
+reads_told form files m n [] [] are = are
+reads_told form files m n [] (read ∷ reads) are = are
+reads_told form files m n (name ∷ names) [] are = are
+reads_told form files m n (name ∷ names) (read ∷ reads) are = (are.0, are.1, reads_told form files m n names reads are.2)
+
+goal_told : (command : Command) (steps : ℕ) (files : Files) (m n : Type 0) (k : ℕ) (goal : Statement) (told : Told) → IsTold command steps (Some files) m k goal told
+    → IsTold command steps (Some files) n k goal told
+goal_told Prove steps files m n k goal told is = is
+goal_told Alone steps files m n k goal told is = is
+goal_told Check steps files m n k goal told is = is
+goal_told Cnf steps files m n k goal told is = is
+
+goals_told : (request : Request) (files : Files) (m n : Type 0) (k : ℕ) (goals : List Statement) (lines : List Line) → AreTold request (Some files) m k goals lines
+    → AreTold request (Some files) n k goals lines
+goals_told request files m n k [] [] are = are
+goals_told request files m n k [] (line ∷ lines) are = are
+goals_told request files m n k (goal ∷ goals) [] are = are
+goals_told request files m n k (goal ∷ goals) (line ∷ lines) are =
+    (are.0, goal_told request.command request.steps files m n k goal line.told are.1, goals_told request files m n (k + 1) goals lines are.2)
+
+file_told : (request : Request) (files : Files) (m n : Type 0) (k : ℕ) (s : Stated) (found : Found) → IsFound request (Some files) m k s found → IsFound request (Some files) n k s found
+file_told request files m n k Absent found is = is
+file_told request files m n k NotYet found is = is
+file_told request files m n k (Goals goals) Found.Absent is = is
+file_told request files m n k (Goals goals) Found.NotYet is = is
+file_told request files m n k (Goals goals) (Found.Goals lines) is = goals_told request files m n k goals lines is
+
+files_told : (request : Request) (files : Files) (m n : Type 0) (k : ℕ) (reads : List Read) (parts : List Part) → AreFound request (Some files) m k reads parts
+    → AreFound request (Some files) n k reads parts
+files_told request files m n k [] [] are = are
+files_told request files m n k [] (part ∷ parts) are = are
+files_told request files m n k (read ∷ reads) [] are = are
+files_told request files m n k (read ∷ reads) (part ∷ parts) are =
+    (are.0, file_told request files m n k read.stated part.found are.1, files_told request files m n (k + length (goals_of part.found)) reads parts are.2)
+
+parts_told : (request : Request) (files : Files) (m n : Type 0) (parts : List Part) → ArePartsOf (Some files) m request parts → ArePartsOf (Some files) n request parts
+parts_told request files m n parts are = (are.0, reads_told (form_of request.command) files m n request.files are.0 are.1, files_told request files m n 1 are.0 parts are.2)
 
 pub done : (o : Option Request) (files : Files) (text : List ℕ) (before after : Outside) (status : ℕ) → IsHonest before after files text → status ≢ 7 → AnsweredIf o before after status → Does o files text after status
 done None files text before after status honest seven r =
@@ -36,7 +74,7 @@ done (Some request) files text before after status honest seven (inr (inr r)) =
     let missing = Rose before.missing after.missing in
     let t = whole text (report request r.parts) (status_of r.parts) status before after honest.written_told honest.sink_holds seven r.tells in (
       r.parts,
-      found_told files missing ⊥ request.files r.parts (subst (λ f. ArePartsOf f missing request.files r.parts) honest.files_told r.found),
+      parts_told request files missing ⊥ r.parts (subst (λ f. ArePartsOf f missing request r.parts) honest.files_told r.found),
       record {
         told = t.0;
         stored = r.stored ∙ ap (option_map (with_all (certificates r.parts))) honest.files_told;
@@ -44,36 +82,69 @@ done (Some request) files text before after status honest seven (inr (inr r)) =
       },
     )
 
-told_below : (told : Told) → told_status told ≤ 1
-told_below (Proved text) = omega arith
-told_below (False values) = omega arith
+-- statuses that goals and files ask for: none is 2, 5 or 6
+record IsOwn (n : ℕ) : Type 0 where
+  below : (n ≤ 4) ⊎ (n ≡ 7)
+  apart : (n ≤ 1) ⊎ (3 ≤ n)
 
-goals_below : (lines : List Line) → goals_status lines ≤ 1
-goals_below [] = omega arith
-goals_below (line ∷ lines) = omega (arith, told_below line.told, goals_below lines)
+both_below : (a b : ℕ) → (a ≤ 4) ⊎ (a ≡ 7) → (b ≤ 4) ⊎ (b ≡ 7) → (max a b ≤ 4) ⊎ (max a b ≡ 7)
+both_below a b (inl h) (inl k) = inl (omega arith)
+both_below a b (inl h) (inr k) = inr (omega arith)
+both_below a b (inr h) (inl k) = inr (omega arith)
+both_below a b (inr h) (inr k) = inr (omega arith)
 
-found_not : (found : Found) → (found_status found ≤ 1) ⊎ (found_status found ≡ 4)
-found_not Found.Absent = inr refl
-found_not Found.NotYet = inr refl
-found_not (Found.Goals goals) = inl (goals_below goals)
+both_apart : (a b : ℕ) → (a ≤ 1) ⊎ (3 ≤ a) → (b ≤ 1) ⊎ (3 ≤ b) → (max a b ≤ 1) ⊎ (3 ≤ max a b)
+both_apart a b (inl h) (inl k) = inl (omega arith)
+both_apart a b (inl h) (inr k) = inr (omega arith)
+both_apart a b (inr h) (inl k) = inr (omega arith)
+both_apart a b (inr h) (inr k) = inr (omega arith)
 
-both_not : (a b : ℕ) → (a ≤ 1) ⊎ (a ≡ 4) → (b ≤ 1) ⊎ (b ≡ 4) → (max a b ≤ 1) ⊎ (max a b ≡ 4)
-both_not a b (inl h) (inl k) = inl (omega arith)
-both_not a b (inl h) (inr k) = inr (omega arith)
-both_not a b (inr h) (inl k) = inr (omega arith)
-both_not a b (inr h) (inr k) = inr (omega arith)
+both_own : (a b : ℕ) → IsOwn a → IsOwn b → IsOwn (max a b)
+both_own a b p q = record { below = both_below a b p.below q.below; apart = both_apart a b p.apart q.apart }
 
-parts_not : (parts : List Part) → (status_of parts ≤ 1) ⊎ (status_of parts ≡ 4)
-parts_not [] = inl (omega arith)
-parts_not (part ∷ parts) = both_not (found_status part.found) (status_of parts) (found_not part.found) (parts_not parts)
+low : (n : ℕ) → n ≤ 1 → IsOwn n
+low n h = record { below = inl (omega arith); apart = inl h }
+
+high : (n : ℕ) → 3 ≤ n → n ≤ 4 → IsOwn n
+high n h k = record { below = inl k; apart = inr h }
+
+told_own : (told : Told) → IsOwn (told_status told)
+told_own (Proved text) = low 0 (omega arith)
+told_own (False values) = low 1 (omega arith)
+told_own (Budget spent) = high 3 (omega arith) (omega arith)
+told_own Deep = high 3 (omega arith) (omega arith)
+told_own Large = high 3 (omega arith) (omega arith)
+told_own OutOfMemory = record { below = inr refl; apart = inr (omega arith) }
+told_own (Clauses text) = low 0 (omega arith)
+told_own Accepted = low 0 (omega arith)
+told_own (Refused line fault) = low 1 (omega arith)
+told_own NoEmptyClause = low 1 (omega arith)
+told_own AbsentCertificate = high 4 (omega arith) (omega arith)
+
+goals_own : (lines : List Line) → IsOwn (goals_status lines)
+goals_own [] = low 0 (omega arith)
+goals_own (line ∷ lines) = both_own (told_status line.told) (goals_status lines) (told_own line.told) (goals_own lines)
+
+found_own : (found : Found) → IsOwn (found_status found)
+found_own Found.Absent = high 4 (omega arith) (omega arith)
+found_own Found.NotYet = high 4 (omega arith) (omega arith)
+found_own (Found.Goals lines) = goals_own lines
+
+parts_own : (parts : List Part) → IsOwn (status_of parts)
+parts_own [] = low 0 (omega arith)
+parts_own (part ∷ parts) = both_own (found_status part.found) (status_of parts) (found_own part.found) (parts_own parts)
+
+never_six : (n : ℕ) → (n ≤ 4) ⊎ (n ≡ 7) → n ≢ 6
+never_six n (inl h) e = omega arith
+never_six n (inr h) e = omega arith
+
+never_two : (n : ℕ) → (n ≤ 1) ⊎ (3 ≤ n) → n ≢ 2
+never_two n (inl h) e = omega arith
+never_two n (inr h) e = omega arith
 
 stops_at : (F : Type 0) (status : ℕ) → Stops F status → status ≡ 6 → F
 stops_at F status (inl s) e = s.1
 stops_at F status (inr s) e = absurd (omega arith)
-
-not_own : (own status : ℕ) → (own ≤ 1) ⊎ (own ≡ 4) → status ≡ own → status ≢ 6 × (status ≢ 2)
-not_own own status (inl h) e = (λ k. omega arith, λ k. omega arith)
-not_own own status (inr h) e = (λ k. omega arith, λ k. omega arith)
 
 tells_device : (added : List ℕ) (own status : ℕ) (before after : Outside) → own ≢ 6 → Tells added own before after status → status ≡ 6 → SinkFailed before after
 tells_device added own status before after not (inl t) e = absurd (not (sym t.1 ∙ e))
@@ -83,7 +154,7 @@ pub device : (o : Option Request) (before after : Outside) (status : ℕ) → An
 device None before after status r e = inr (tells_device usage 2 status before after (λ k. omega arith) r.tells e)
 device (Some request) before after status (inl u) e = inl (stops_at (KeeperFailed before after) status u.stops e)
 device (Some request) before after status (inr (inl u)) e = inl (stops_at (KeeperFailed before after) status u.stops e)
-device (Some request) before after status (inr (inr r)) e = inr (tells_device (report request r.parts) (status_of r.parts) status before after ((not_own (status_of r.parts) (status_of r.parts) (parts_not r.parts) refl).0) r.tells e)
+device (Some request) before after status (inr (inr r)) e = inr (tells_device (report request r.parts) (status_of r.parts) status before after (never_six (status_of r.parts) (parts_own r.parts).below) r.tells e)
 
 stops_not : (F : Type 0) (status : ℕ) → Stops F status → status ≢ 2
 stops_not F status (inl s) e = omega arith
@@ -97,4 +168,4 @@ pub words : (o : Option Request) (before after : Outside) (status : ℕ) → Ans
 words None before after status r e = refl
 words (Some request) before after status (inl u) e = absurd (stops_not (KeeperFailed before after) status u.stops e)
 words (Some request) before after status (inr (inl u)) e = absurd (stops_not (KeeperFailed before after) status u.stops e)
-words (Some request) before after status (inr (inr r)) e = absurd (tells_not (report request r.parts) (status_of r.parts) status before after ((not_own (status_of r.parts) (status_of r.parts) (parts_not r.parts) refl).1) r.tells e)
+words (Some request) before after status (inr (inr r)) e = absurd (tells_not (report request r.parts) (status_of r.parts) status before after (never_two (status_of r.parts) (parts_own r.parts).apart) r.tells e)

@@ -3,8 +3,8 @@ use Rattle.std.proofs.Common.{◌≡◌, ℕ, ◌+◌, List, [], ◌∷◌, ◌+
 use Rattle.std.specs.Prelude.{Option, option_map, Result, OnErr}
 use Rattle.bvd_host.specs.Files.{Files, with_file}
 use Rattle.cert_store.specs.CutShort.{IsCutShort}
-use Rattle.bvd_top.specs.Report.{Told, Proved, False, Line, Part, goals_of, all_goals, with_all, with_certificate, certificate_name, certificates_from}
-use Rattle.bvd_top.specs.Storing.{IsPartlyStored, IsStoredTo}
+use Rattle.bvd_report.specs.Report.{Told, Proved, False, Budget, Deep, Large, OutOfMemory, Clauses, Accepted, Refused, NoEmptyClause, AbsentCertificate, Line, Part, goals_of, all_goals, with_certificate, certificate_name, certificates_from}
+use Rattle.bvd_top.specs.Storing.{IsPartlyStored, IsStoredTo, with_all}
 
 with_all-push : (xs : List (List ℕ × List ℕ)) (x : List ℕ × List ℕ) (f : Files) → with_all (xs ++ x ∷ []) f ≡ with_file (with_all xs f) x.0 x.1
 with_all-push [] x f = refl
@@ -81,6 +81,15 @@ pub stored-goal : (told : Told) (k : ℕ) (all rest : List (List ℕ × List ℕ
     → IsStoredTo all rest before new
 stored-goal (Proved text) k all rest before mid new s e = stored-next all rest (certificate_name k, text) before mid new s e
 stored-goal (False values) k all rest before mid new s e = record { whole = s.whole; parted = s.parted; files = e ∙ sym (kept mid) ∙ s.files }
+stored-goal (Budget spent) k all rest before mid new s e = record { whole = s.whole; parted = s.parted; files = e ∙ sym (kept mid) ∙ s.files }
+stored-goal Deep k all rest before mid new s e = record { whole = s.whole; parted = s.parted; files = e ∙ sym (kept mid) ∙ s.files }
+stored-goal Large k all rest before mid new s e = record { whole = s.whole; parted = s.parted; files = e ∙ sym (kept mid) ∙ s.files }
+stored-goal OutOfMemory k all rest before mid new s e = record { whole = s.whole; parted = s.parted; files = e ∙ sym (kept mid) ∙ s.files }
+stored-goal (Clauses text) k all rest before mid new s e = record { whole = s.whole; parted = s.parted; files = e ∙ sym (kept mid) ∙ s.files }
+stored-goal Accepted k all rest before mid new s e = record { whole = s.whole; parted = s.parted; files = e ∙ sym (kept mid) ∙ s.files }
+stored-goal (Refused line fault) k all rest before mid new s e = record { whole = s.whole; parted = s.parted; files = e ∙ sym (kept mid) ∙ s.files }
+stored-goal NoEmptyClause k all rest before mid new s e = record { whole = s.whole; parted = s.parted; files = e ∙ sym (kept mid) ∙ s.files }
+stored-goal AbsentCertificate k all rest before mid new s e = record { whole = s.whole; parted = s.parted; files = e ∙ sym (kept mid) ∙ s.files }
 
 -- the same, where the goal is the next of some
 pub stored-goal_at : (line : Line) (lines here : List Line) (k : ℕ) (all : List (List ℕ × List ℕ)) (before mid new : Option Files)
@@ -89,18 +98,25 @@ pub stored-goal_at : (line : Line) (lines here : List Line) (k : ℕ) (all : Lis
 stored-goal_at line lines here k all before mid new s e is =
     stored-goal line.told k all (certificates_from (k + 1) lines) before mid new (subst (λ l. IsStoredTo all (certificates_from k l) before mid) is s) e
 
--- the certificate of the next goal is cut short
-pub stored-goal_cut : (line : Line) (text : List ℕ) (lines here : List Line) (k : ℕ) (all : List (List ℕ × List ℕ)) (before mid new : Option Files)
-    → IsStoredTo all (certificates_from k here) before mid → here ≡ line ∷ lines → line.told ≡ Proved text → IsCutShort (certificate_name k) text mid new
-    → IsPartlyStored all before new
-stored-goal_cut line text lines here k all before mid new s is told cut =
-    let at : IsStoredTo all (with_certificate k line.told (certificates_from (k + 1) lines)) before mid = subst (λ l. IsStoredTo all (certificates_from k l) before mid) is s in
-    stored-cut all (certificates_from (k + 1) lines) (certificate_name k, text) before mid new
-    (subst (λ t. IsStoredTo all (with_certificate k t (certificates_from (k + 1) lines)) before mid) told at) cut
-
 with_certificate-append : (k : ℕ) (told : Told) (xs ys : List (List ℕ × List ℕ)) → with_certificate k told (xs ++ ys) ≡ with_certificate k told xs ++ ys
 with_certificate-append k (Proved text) xs ys = refl
 with_certificate-append k (False values) xs ys = refl
+with_certificate-append k (Budget spent) xs ys = refl
+with_certificate-append k Deep xs ys = refl
+with_certificate-append k Large xs ys = refl
+with_certificate-append k OutOfMemory xs ys = refl
+with_certificate-append k (Clauses text) xs ys = refl
+with_certificate-append k Accepted xs ys = refl
+with_certificate-append k (Refused line fault) xs ys = refl
+with_certificate-append k NoEmptyClause xs ys = refl
+with_certificate-append k AbsentCertificate xs ys = refl
+
+-- the certificate of the next goal is cut short
+pub stored-goal_cut : (line : Line) (lines here : List Line) (k : ℕ) (all : List (List ℕ × List ℕ)) (before mid new : Option Files)
+    → IsStoredTo all (certificates_from k here) before mid → here ≡ line ∷ lines → IsPartlyStored (with_certificate k line.told []) mid new → IsPartlyStored all before new
+stored-goal_cut line lines here k all before mid new s is cut =
+    stored-many_cut all (with_certificate k line.told []) (certificates_from (k + 1) lines) before mid new
+    (subst (λ l. IsStoredTo all l before mid) (ap (certificates_from k) is ∙ with_certificate-append k line.told [] (certificates_from (k + 1) lines)) s) cut
 
 -- the certificates of goals and of those behind them
 pub certificates_from-append : (k : ℕ) (xs ys : List Line) → certificates_from k (xs ++ ys) ≡ certificates_from k xs ++ certificates_from (k + length xs) ys
@@ -140,3 +156,17 @@ left_behind part parts here lines n total is of e =
 pub on_err : {T E : Type 0} (r : Result T E) (P : Type 0) → P → OnErr r P
 on_err (Ok x) P p = tt
 on_err (Err e) P p = p
+
+-- one certificate is cut short
+pub one_cut : (k : ℕ) (text : List ℕ) (before after : Option Files) → IsCutShort (certificate_name k) text before after → IsPartlyStored (with_certificate k (Proved text) []) before after
+one_cut k text before after cut = record {
+  whole = [];
+  next = (certificate_name k, text);
+  others = [];
+  parted = refl;
+  files = subst (λ o. IsCutShort (certificate_name k) text o after) (kept before) cut;
+}
+
+pub err_then : {T E : Type 0} (r : Result T E) (P Q : Type 0) → (P → Q) → OnErr r P → OnErr r Q
+err_then (Ok x) P Q f h = tt
+err_then (Err e) P Q f h = f h

@@ -7,8 +7,8 @@ use Rattle.bvd_top.specs.declared.stop.Stop.{Stop}
 use Rattle.bvd_top.specs.declared.stop.Stop.TheVariants.{Device, Memory}
 use Rattle.bvd_words.specs.Requests.{Request}
 use Rattle.bvd_top.specs.Words.{request_of, usage}
-use Rattle.bvd_top.specs.Report.{Part, report, certificates, with_all, status_of}
-use Rattle.bvd_top.specs.Storing.{IsPartlyStored}
+use Rattle.bvd_report.specs.Report.{Part, report, certificates, status_of}
+use Rattle.bvd_top.specs.Storing.{IsPartlyStored, with_all}
 use Rattle.bvd_top.specs.Parts.{ArePartsOf}
 
 -- the run stops early: a device failed, or memory was wanting
@@ -21,7 +21,7 @@ Tells text own before after status =
     ((after.written ≡ option_map (λ w. w ++ text) before.written) × (status ≡ own))
     ⊎ ((n : ℕ) × (after.written ≡ option_map (λ w. w ++ take n text) before.written) × Stops (SinkFailed before after) status)
 
--- a file isn't read to its end
+-- a file, or a stored certificate that is asked for, isn't read to its end
 pub record Unread (before after : Outside) (status : ℕ) : Type 0 where
   pub files_stay : after.files ≡ before.files
   pub nothing_told : after.written ≡ before.written
@@ -30,7 +30,7 @@ pub record Unread (before after : Outside) (status : ℕ) : Type 0 where
 -- a certificate isn't written to its end; those before it are, and those behind it aren't begun
 pub record Unstored (request : Request) (before after : Outside) (status : ℕ) : Type 0 where
   pub parts : List Part
-  pub found : ArePartsOf before.files (Rose before.missing after.missing) request.files parts
+  pub found : ArePartsOf before.files (Rose before.missing after.missing) request parts
   pub stored : (after.files ≡ before.files) ⊎ IsPartlyStored (certificates parts) before.files after.files
   pub nothing_told : after.written ≡ before.written
   pub stops : Stops (KeeperFailed before after) status
@@ -38,7 +38,7 @@ pub record Unstored (request : Request) (before after : Outside) (status : ℕ) 
 -- all certificates are written, and the report or a beginning of it
 pub record Reported (request : Request) (before after : Outside) (status : ℕ) : Type 0 where
   pub parts : List Part
-  pub found : ArePartsOf before.files (Rose before.missing after.missing) request.files parts
+  pub found : ArePartsOf before.files (Rose before.missing after.missing) request parts
   pub stored : after.files ≡ option_map (with_all (certificates parts)) before.files
   pub tells : Tells (report request parts) (status_of parts) before after status
 
@@ -73,5 +73,5 @@ pub record IsDone (report_is : List ℕ) (all : List (List ℕ × List ℕ)) (ow
 -- the usage for words that are refused; else the report, the certificates and the status of what became of the request's files
 abbrev pub Does : Option Request → Files → List ℕ → Outside → ℕ → Type 0
 Does None files text after status = IsDone usage [] 2 files text after status
-Does (Some request) files text after status = (parts : List Part) × ArePartsOf (Some files) ⊥ request.files parts
+Does (Some request) files text after status = (parts : List Part) × ArePartsOf (Some files) ⊥ request parts
     × IsDone (report request parts) (certificates parts) (status_of parts) files text after status

@@ -1,8 +1,9 @@
 pub mod Words
-pub mod Report
-pub mod Replies
+pub mod Stated
+pub mod Told
 pub mod Parts
 pub mod Reading
 pub mod Storing
 pub mod Shown
+pub mod Decided
 pub mod Ending

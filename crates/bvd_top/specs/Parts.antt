@@ -1,23 +1,27 @@
--- What became of each file of a run.
-use Rattle.std.specs.Prelude.{◌≡◌, ◌⊎◌, ℕ, List, [], ◌∷◌, Option, Some, None, ⊤}
-use Rattle.bvd_host.specs.Files.{Files, file_at}
-use Rattle.bv_lines.specs.Closed.{goals_in}
-use Rattle.bvd_top.specs.Report.{Found, Part}
-use Rattle.bvd_top.specs.Replies.{AreReplies}
+-- What became of each file of a run: first all files are read, and then the goals are replied to in order.
+use Rattle.std.specs.Prelude.{◌≡◌, ℕ, ◌+◌, List, [], ◌∷◌, Option, ⊤, length}
+use Rattle.bvd_host.specs.Files.{Files}
+use Rattle.bvd_words.specs.Requests.{Request}
+use Rattle.bvd_report.specs.Report.{Found, Part, goals_of}
+use Rattle.bvd_top.specs.Stated.{Stated, Absent, NotYet, Goals, Read, AreRead}
+use Rattle.bvd_top.specs.Told.{AreTold, form_of}
 
--- what a file comes to: it isn't there, or its bytes are read
-abbrev pub IsFoundIn : Option (List ℕ) → Found → Type 0
-IsFoundIn None found = found ≡ Found.Absent
-IsFoundIn (Some bytes) found = AreReplies (goals_in bytes) found
+-- what became of a file that states this, its goals being numbered from k on
+abbrev pub IsFound : Request → Option Files → Type 0 → ℕ → Stated → Found → Type 0
+IsFound request files missing k Absent found = found ≡ Found.Absent
+IsFound request files missing k NotYet found = found ≡ Found.NotYet
+IsFound request files missing k (Goals goals) Found.Absent = ⊥
+IsFound request files missing k (Goals goals) Found.NotYet = ⊥
+IsFound request files missing k (Goals goals) (Found.Goals lines) = AreTold request files missing k goals lines
 
--- What became of a file. Where the files aren't told, it is absent only where `missing` holds, and else it is what some bytes come to.
-abbrev pub IsFound : Option Files → Type 0 → List ℕ → Found → Type 0
-IsFound (Some files) missing name found = IsFoundIn (file_at files name) found
-IsFound None missing name found = ((found ≡ Found.Absent) × missing) ⊎ ((bytes : List ℕ) × IsFoundIn (Some bytes) found)
+-- the same of files, in order
+abbrev pub AreFound : Request → Option Files → Type 0 → ℕ → List Read → List Part → Type 0
+AreFound request files missing k [] [] = ⊤
+AreFound request files missing k [] (part ∷ parts) = ⊥
+AreFound request files missing k (read ∷ reads) [] = ⊥
+AreFound request files missing k (read ∷ reads) (part ∷ parts) =
+    (part.path ≡ read.path) × IsFound request files missing k read.stated part.found × AreFound request files missing (k + length (goals_of part.found)) reads parts
 
--- the parts of a run over these files, in order
-abbrev pub ArePartsOf : Option Files → Type 0 → List (List ℕ) → List Part → Type 0
-ArePartsOf files missing [] [] = ⊤
-ArePartsOf files missing [] (part ∷ parts) = ⊥
-ArePartsOf files missing (name ∷ names) [] = ⊥
-ArePartsOf files missing (name ∷ names) (part ∷ parts) = (part.path ≡ name) × IsFound files missing name part.found × ArePartsOf files missing names parts
+-- the parts of a run over these files
+abbrev pub ArePartsOf : Option Files → Type 0 → Request → List Part → Type 0
+ArePartsOf files missing request parts = (reads : List Read) × AreRead (form_of request.command) files missing request.files reads × AreFound request files missing 1 reads parts

@@ -1,8 +1,12 @@
 -- What is left of files that are written one after the other.
-use Rattle.std.specs.Prelude.{◌≡◌, ℕ, List, ◌∷◌, ◌++◌, Option, option_map}
-use Rattle.bvd_host.specs.Files.{Files}
+use Rattle.std.specs.Prelude.{◌≡◌, ℕ, List, [], ◌∷◌, ◌++◌, Option, option_map}
+use Rattle.bvd_host.specs.Files.{Files, with_file}
 use Rattle.cert_store.specs.CutShort.{IsCutShort}
-use Rattle.bvd_top.specs.Report.{with_all}
+
+-- the files after these were written in order
+abbrev pub with_all : List (List ℕ × List ℕ) → Files → Files
+with_all [] files = files
+with_all (file ∷ rest) files = with_all rest (with_file files file.0 file.1)
 
 -- some first files of a list are written, and perhaps a beginning of the next one
 pub record IsPartlyStored (all : List (List ℕ × List ℕ)) (before after : Option Files) : Type 0 where

@@ -1,84 +1,45 @@
 //! The call that does all that the program does on one thread.
-ghost use Rattle.std.specs.Prelude.{◌≡◌, ◌≤◌, ◌<◌, ◌^◌, ◌*◌, map, string_bytes, length, option_map, IfOk, OnOk, OnErr, [], ◌∷◌, IsErrOf, ◌++◌, take, ℕ, ◌≢◌, ◌⊎◌, List, None};
+ghost use Rattle.std.specs.Prelude.{◌≡◌, ◌≤◌, map, string_bytes, length, option_map, IfOk, OnErr, IsErrOf, ◌++◌, take, ℕ, ◌≢◌, ◌⊎◌, List, None};
 ghost use Rattle.bvd_host.specs.Files.{Files};
 ghost use Rattle.bvd_host.specs.Causes.{Rose};
 ghost use Rattle.bvd_host.specs.Outside.{outside, CountsStay, IsHonest};
-ghost use Rattle.bv_lines.specs.Closed.{goals_in};
 ghost use Rattle.bvd_words.specs.Asked.{request_shown};
+ghost use Rattle.bvd_report.specs.Report.{all_goals};
+ghost use Rattle.bvd_report.specs.Shown.{parts_shown};
+ghost use Rattle.bvd_top.specs.Parts.{ArePartsOf};
 ghost use Rattle.bvd_top.specs.Words.{usage, request_of};
 ghost use Rattle.bvd_top.specs.Ending.{Ending, Answered, Does, status_in};
-ghost use Rattle.bvd_top.specs.Parts.{IsFound, ArePartsOf};
-ghost use Rattle.bvd_top.specs.Replies.{AreReplies};
-ghost use Rattle.bvd_top.specs.Report.{all_goals, goals_of};
-ghost use Rattle.bvd_top.specs.Shown.{found_of, parts_shown};
 
-use crate::reading::{FileRead, read_file};
-use crate::reply::replies;
-use crate::report::{Found, Part, report, status_of};
+use crate::finding::find_all;
+use crate::replying::{form_of, reply_all};
 use crate::stop::Stop;
 use crate::storing::store_certificates;
 use crate::telling::tell;
 use crate::words::read_words;
-use bv_lines::file;
 use bvd_host::keeper::Keeper;
 use bvd_host::sink::Sink;
+use bvd_report::report::report;
+use bvd_report::status::status_of;
+use bvd_report::told::Part;
 use bvd_words::request::Request;
 use std::alloc::{AllocError, Global};
 
-/// What the bytes of a file come to.
-fn find_in(alloc: Global, bytes: &[u8]) -> Result<Found, AllocError>
-    ensures found { IfOk result (λ found. AreReplies (goals_in bytes.now) (found_of found)) }
-    ensures few { IfOk result (λ found. length (goals_of (found_of found)) ≤ 1024) }
-{
-    match file::goals_in(alloc, bytes)? {
-        Some(goals) => Ok(Found::Goals(replies(alloc, goals)?)),
-        None => Ok(Found::NotYet),
-    }
-}
-
-/// What a file comes to; one of more bytes than the form has isn't read.
-fn find<K: Keeper>(alloc: Global, keeper: &mut K, name: &str) -> Result<Found, Stop>
-    ensures found { IfOk result (λ found. IsFound (K.files keeper.old) (Rose (K.missing keeper.old) (K.missing keeper.new)) name.now (found_of found)) }
-    ensures few { IfOk result (λ found. length (goals_of (found_of found)) ≤ 1024) }
-    ensures files { K.files keeper.new ≡ K.files keeper.old }
-    ensures faults { K.faults keeper.old ≤ K.faults keeper.new }
-    ensures missing { K.missing keeper.old ≤ K.missing keeper.new }
-    ensures device { IsErrOf result Stop.Device → Rose (K.faults keeper.old) (K.faults keeper.new) }
-{
-    match read_file(alloc, keeper, name, file::MOST_BYTES as u64)? {
-        FileRead::Absent => Ok(Found::Absent),
-        FileRead::TooLong => Ok(Found::NotYet),
-        FileRead::Bytes(bytes) => Ok(find_in(alloc, &bytes)?),
-    }
-}
-
-/// Adds a file of the run.
-fn keep<'a>(parts: &mut Vec<Part<'a>>, part: Part<'a>) -> Result<(), AllocError>
-    ensures { OnOk result (parts.new.items ≡ parts.old.items ++ part.entry ∷ []) }
-{
-    parts.push(part)?;
-    Ok(())
-}
-
-/// What the files come to, in order.
-fn find_all<'a, K: Keeper>(
+/// What became of each file: all files are read, and then their goals are replied to.
+fn parts_of<'a, K: Keeper>(
     alloc: Global,
+    request: &Request<'a>,
     keeper: &mut K,
-    names: &[&'a str],
 ) -> Result<Vec<Part<'a>>, Stop>
-    ensures found { IfOk result (λ parts. ArePartsOf (K.files keeper.old) (Rose (K.missing keeper.old) (K.missing keeper.new)) (map (λ n. n.now) names.now) (parts_shown parts.items)) }
-    ensures few { IfOk result (λ parts. length (all_goals (parts_shown parts.items)) ≤ 1024 * length names.now) }
+    requires { length request.now.files.items ≤ 64 }
+    ensures found { IfOk result (λ parts. ArePartsOf (K.files keeper.old) (Rose (K.missing keeper.old) (K.missing keeper.new)) (request_shown request.now) (parts_shown parts.items)) }
+    ensures few { IfOk result (λ parts. length (all_goals (parts_shown parts.items)) ≤ 65536) }
     ensures files { K.files keeper.new ≡ K.files keeper.old }
     ensures faults { K.faults keeper.old ≤ K.faults keeper.new }
     ensures missing { K.missing keeper.old ≤ K.missing keeper.new }
     ensures device { IsErrOf result Stop.Device → Rose (K.faults keeper.old) (K.faults keeper.new) }
 {
-    let mut parts = Vec::new(alloc);
-    'names: for name in names {
-        let found = find(alloc, keeper, name)?;
-        keep(&mut parts, Part { path: *name, found })?;
-    }
-    Ok(parts)
+    let reads = find_all(alloc, form_of(request.command), keeper, &request.files)?;
+    reply_all(alloc, keeper, request, reads)
 }
 
 /// Does what is asked: reads the files and replies to their goals, then writes the certificates, then the report.
@@ -92,10 +53,10 @@ fn answer<K: Keeper, S: Sink>(
     ensures counts { CountsStay (outside K.files K.faults K.missing S.written S.faults keeper.old out.old) (outside K.files K.faults K.missing S.written S.faults keeper.new out.new) }
     ensures ending { Answered (request_shown request.now) (outside K.files K.faults K.missing S.written S.faults keeper.old out.old) (outside K.files K.faults K.missing S.written S.faults keeper.new out.new) (status_in result) }
 {
-    let parts = find_all(alloc, keeper, &request.files)?;
+    let parts = parts_of(alloc, request, keeper)?;
     let text = report(alloc, request, &parts)?;
     store_certificates(alloc, keeper, &parts)?;
-    tell(out, text.as_bytes())?;
+    tell(out, &text)?;
     Ok(status_of(&parts))
 }
 /// The usage, as bytes.

@@ -3,15 +3,14 @@ ghost use Rattle.std.specs.Prelude.{◌≡◌, ◌+◌, ◌<◌, ◌≤◌, ◌^
 ghost use Rattle.bvd_host.specs.Files.{with_file};
 ghost use Rattle.bvd_host.specs.Causes.{Rose};
 ghost use Rattle.cert_store.specs.CutShort.{IsCutShort};
-ghost use Rattle.bvd_top.specs.Storing.{IsPartlyStored};
-ghost use Rattle.bvd_top.specs.Report.{all_goals, certificate_name, certificates, certificates_from, with_all, with_certificate};
-ghost use Rattle.bvd_top.specs.Replies.{closed_certificate};
-ghost use Rattle.bvd_top.specs.Shown.{lines_shown, parts_shown, told_of};
+ghost use Rattle.bvd_report.specs.Report.{all_goals, certificates, certificates_from, with_certificate};
+ghost use Rattle.bvd_report.specs.Shown.{lines_shown, parts_shown, told_shown};
+ghost use Rattle.bvd_top.specs.Storing.{IsPartlyStored, with_all};
 
-use crate::reply::{Answered, Reply};
-use crate::report::{Part, certificate_name, goals_of};
 use crate::stop::Stop;
 use bvd_host::keeper::Keeper;
+use bvd_report::goal_line::certificate_name;
+use bvd_report::told::{Line, Part, Told, goals_of};
 use cert_store::putting::put;
 use cert_store::stop::StoreStop;
 use std::alloc::Global;
@@ -31,28 +30,25 @@ fn store<K: Keeper>(keeper: &mut K, name: &str, bytes: &[u8]) -> Result<(), Stop
     }
 }
 
-/// The certificate of a closed goal: its clauses are `1` and `-1`, and the empty clause follows from these two.
-const CLOSED_CERTIFICATE: &[u8] = b"3 0 1 2 0\n";
-
 /// Writes the certificate of a goal, where it is proved.
 fn store_goal<K: Keeper>(
     alloc: Global,
     keeper: &mut K,
     number: usize,
-    reply: Reply,
+    told: &Told,
 ) -> Result<(), Stop>
-    ensures ok { OnOk result (K.files keeper.new ≡ option_map (with_all (with_certificate number (told_of reply) [])) (K.files keeper.old)) }
-    ensures err { OnErr result ((reply ≡ Reply.Proved) × IsCutShort (certificate_name number) closed_certificate (K.files keeper.old) (K.files keeper.new)) }
+    ensures ok { OnOk result (K.files keeper.new ≡ option_map (with_all (with_certificate number (told_shown told.now) [])) (K.files keeper.old)) }
+    ensures err { OnErr result (IsPartlyStored (with_certificate number (told_shown told.now) []) (K.files keeper.old) (K.files keeper.new)) }
     ensures faults { K.faults keeper.old ≤ K.faults keeper.new }
     ensures missing { K.missing keeper.old ≤ K.missing keeper.new }
     ensures device { IsErrOf result Stop.Device → Rose (K.faults keeper.old) (K.faults keeper.new) }
 {
-    match reply {
-        Reply::Proved => {
+    match told {
+        Told::Proved(text) => {
             let name = certificate_name(alloc, number)?;
-            store(keeper, name.as_str(), CLOSED_CERTIFICATE)
+            store(keeper, name.as_str(), text)
         }
-        Reply::False => Ok(()),
+        _ => Ok(()),
     }
 }
 
@@ -61,7 +57,7 @@ fn store_goals<K: Keeper>(
     alloc: Global,
     keeper: &mut K,
     first: usize,
-    goals: &[Answered],
+    goals: &[Line],
 ) -> Result<(), Stop>
     requires { first + length goals.now < 2 ^ 64 }
     ensures ok { OnOk result (K.files keeper.new ≡ option_map (with_all (certificates_from first (lines_shown goals.now))) (K.files keeper.old)) }
@@ -71,8 +67,8 @@ fn store_goals<K: Keeper>(
     ensures device { IsErrOf result Stop.Device → Rose (K.faults keeper.old) (K.faults keeper.new) }
 {
     let mut number = first;
-    'goals: for answered in goals {
-        store_goal(alloc, keeper, number, answered.reply)?;
+    'goals: for line in goals {
+        store_goal(alloc, keeper, number, &line.told)?;
         number += 1;
     }
     Ok(())

@@ -1,7 +1,7 @@
 //! The words of the command line, of the commands that are built.
 ghost use Rattle.std.specs.Prelude.{◌≡◌, ◌≤◌, map, option_map, string_bytes, length, IfOk, IfSome};
 ghost use Rattle.bvd_words.specs.Asked.{request_shown};
-ghost use Rattle.bvd_top.specs.Words.{is_built, is_file_word, request_of};
+ghost use Rattle.bvd_top.specs.Words.{is_built, is_command, is_file_word, request_of};
 
 use bvd_words::request;
 use bvd_words::request::Request;
@@ -17,12 +17,19 @@ fn is_file_word(word: &str) -> bool
     }
 }
 
+/// Whether a word is a command that is built.
+fn is_command(word: &str) -> bool
+    ensures { result ≡ is_command word.now }
+{
+    word == "prove" || word == "cnf"
+}
+
 /// Whether the words are those of a command that is built.
 fn is_built(words: &[String]) -> bool
     ensures { result ≡ is_built (map string_bytes words.now) }
 {
     match words {
-        [command, file] => command.as_str() == "prove" && is_file_word(file.as_str()),
+        [command, file] => is_command(command.as_str()) && is_file_word(file.as_str()),
         _ => false,
     }
 }

@@ -1,7 +1,7 @@
 use Rattle.std.proofs.Common.{◌≡◌, ◌+◌, ◌≤◌, drop, length}
-use Rattle.bvd_top.specs.Report.{all_goals, certificates, certificates_from}
+use Rattle.bvd_report.specs.Report.{all_goals, certificates, certificates_from}
 use Rattle.bvd_top.specs.Storing.{IsStoredTo}
-use Rattle.bvd_top.specs.Shown.{parts_shown}
+use Rattle.bvd_report.specs.Shown.{parts_shown}
 use Rattle.bvd_top.proofs.storing.store_certificates.Given as goal
 
 abbrev pub invariant-parts : goal.invariant-parts

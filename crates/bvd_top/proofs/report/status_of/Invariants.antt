@@ -1,7 +1,0 @@
-use Rattle.std.proofs.Common.{◌≡◌, max, drop}
-use Rattle.bvd_top.specs.Report.{status_of}
-use Rattle.bvd_top.specs.Shown.{parts_shown}
-use Rattle.bvd_top.proofs.report.status_of.Given as goal
-
-abbrev pub invariant-parts : goal.invariant-parts
-invariant-parts l = max l.status (status_of (parts_shown (drop l.part-index l.parts))) ≡ status_of (parts_shown l.parts)

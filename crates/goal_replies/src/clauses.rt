@@ -1,0 +1,42 @@
+//! What `cnf` tells of a goal: the text of its clauses.
+ghost use Rattle.std.specs.Prelude.{◌≡◌, ◌⊎◌, [], IfOk};
+ghost use Rattle.bv_expr.specs.Propositional.{IsPropositional};
+ghost use Rattle.bv_lines.specs.Statement.{statement_of};
+ghost use Rattle.bvd_report.specs.Shown.{told_shown};
+ghost use Rattle.goal_replies.specs.Clauses.{AreClauses, IsClausesTold};
+
+use crate::decided::{truth_goal, truth_meant};
+use bv_expr::Goal;
+use bvd_report::told::Told;
+use goal_formula::{FormulaStop, formula_of};
+use sat_form::dimacs;
+use std::alloc::{AllocError, Global};
+
+/// The clauses of a goal that is decided as it stands.
+fn clauses_of(alloc: Global, goal: &Goal) -> Result<Told, AllocError>
+    requires { IsPropositional goal.now.hyps goal.now.concl }
+    ensures { IfOk result (λ told. AreClauses (statement_of goal.now) goal.now.hyps goal.now.concl (told_shown told)) }
+{
+    match formula_of(alloc, goal) {
+        Ok(formula) => {
+            let mut text = Vec::new(alloc);
+            dimacs(alloc, &formula.cnf, &mut text)?;
+            Ok(Told::Clauses(text))
+        }
+        Err(FormulaStop::Deep) => Ok(Told::Deep),
+        Err(FormulaStop::Large) => Ok(Told::Large),
+        Err(FormulaStop::Memory(error)) => Err(error),
+    }
+}
+
+/// The clauses of a goal, or that its circuit is too deep or too large.
+/// Errors: want of memory alone. Cost: O(n log n) in the goal's gates.
+pub fn told_clauses(alloc: Global, goal: &Goal) -> Result<Told, AllocError>
+    requires { (goal.now.binders ≡ []) ⊎ IsPropositional goal.now.hyps goal.now.concl }
+    ensures { IfOk result (λ told. IsClausesTold (statement_of goal.now) (told_shown told)) }
+{
+    match truth_meant(goal) {
+        None => clauses_of(alloc, goal),
+        Some(holds) => clauses_of(alloc, &truth_goal(alloc, holds)?),
+    }
+}

@@ -1,0 +1,6 @@
+//! What is told of one goal, by each command.
+#![tactic(auto)]
+
+pub mod clauses;
+pub mod closed;
+mod decided;
