@@ -77,7 +77,13 @@ pub fn find_all<'a, K: Keeper>(
     let mut reads = Vec::new(alloc);
     'names: for name in names {
         let stated = find(alloc, form, keeper, name)?;
-        keep(&mut reads, Read { path: *name, stated })?;
+        keep(
+            &mut reads,
+            Read {
+                path: *name,
+                stated,
+            },
+        )?;
     }
     Ok(reads)
 }

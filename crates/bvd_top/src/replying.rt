@@ -127,7 +127,9 @@ fn reply_to_file<K: Keeper>(
     match stated {
         Stated::Absent => Ok(Found::Absent),
         Stated::NotYet => Ok(Found::NotYet),
-        Stated::Goals(goals) => Ok(Found::Goals(reply_to_goals(alloc, keeper, request, first, goals)?)),
+        Stated::Goals(goals) => Ok(Found::Goals(reply_to_goals(
+            alloc, keeper, request, first, goals,
+        )?)),
     }
 }
 

@@ -15,7 +15,7 @@ reads-preserved g c =
     let parts = ap parts_shown c.in_ok-keep.ensures ∙ map-append part_shown c.reads.parts.items (part ∷ []) in
     let more = goals_more (parts_shown c.reads.parts.items) (parts_shown c.keep.new.items.items) (part_shown part) parts in
     let count : length c.goals_of.result.now ≡ length (goals_of (found_shown c.in_ok-found.found)) =
-        let shown = length-map c.goals_of.result.now line_shown in omega (arith, shown, ap length c.goals_of.ensures) in
+    let shown = length-map c.goals_of.result.now line_shown in omega (arith, shown, ap length c.goals_of.ensures) in
     let yielded : length (c.reads.yielded ++ c.in-Some.read ∷ []) ≡ length c.reads.yielded + 1 = length-append c.reads.yielded (c.in-Some.read ∷ []) in
     record {
       found = found_next (request_shown c.args.request.now) (g.K.Keeper.files c.args.keeper.now) (g.K.Keeper.files c.reads.keeper) (g.K.Keeper.missing c.args.keeper.now) (g.K.Keeper.missing c.reads.keeper)

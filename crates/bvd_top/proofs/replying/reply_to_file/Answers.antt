@@ -15,7 +15,7 @@ returns-in_ok-reply_to_goals-in-Goals-clause-few g c =
     let goals = map statement_of c.in-Goals.goals.items in
     let missing = Rose (g.K.Keeper.missing c.args.keeper.now) (g.K.Keeper.missing c.reply_to_goals.new.keeper) in
     let count : length lines ≡ length goals =
-        lines_count (request_shown c.args.request.now) (g.K.Keeper.files c.args.keeper.now) missing c.args.first goals lines c.in_ok-reply_to_goals-in-Goals.ensures.told in
+    lines_count (request_shown c.args.request.now) (g.K.Keeper.files c.args.keeper.now) missing c.args.first goals lines c.in_ok-reply_to_goals-in-Goals.ensures.told in
     let P : Stated → Type 0 = λ s. IsSmall (stated_shown s) in
     let small : length goals ≤ 1024 = subst P c.in-Goals.is c.requires.small in
     omega (arith, count, small)

@@ -16,7 +16,7 @@ goals-preserved g c =
     let goals = map-append statement_of c.goals.yielded (c.in-Some.goal ∷ []) in
     let lines = ap lines_shown c.in_ok-keep.ensures ∙ map-append line_shown c.goals.lines.items (line ∷ []) in
     let count : length (lines_shown c.goals.lines.items) ≡ length (map statement_of c.goals.yielded) =
-        lines_count request files missing c.args.first (map statement_of c.goals.yielded) (lines_shown c.goals.lines.items) c.goals.invariant.told in
+    lines_count request files missing c.args.first (map statement_of c.goals.yielded) (lines_shown c.goals.lines.items) c.goals.invariant.told in
     let yielded = length-map c.goals.yielded statement_of in
     let more : length (c.goals.yielded ++ c.in-Some.goal ∷ []) ≡ length c.goals.yielded + 1 = length-append c.goals.yielded (c.in-Some.goal ∷ []) in
     record {

@@ -21,5 +21,5 @@ returns-in_ok-name-in-Proved-clause-err g c =
     let P : Told → Type 0 = λ t. IsPartlyStored (with_certificate c.args.number (told_shown t) []) before after in
     err_then c.store.result (IsCutShort c.as_str.result.now c.deref.result.now before after) (P c.args.told.now)
     (λ cut. subst P (sym c.in-Proved.is) (one_cut c.args.number c.in-Proved.text.items before after
-      (subst (λ t. IsCutShort name t before after) c.deref.ensures.value (subst (λ n. IsCutShort n c.deref.result.now before after) (c.as_str.ensures.value ∙ c.in_ok-name-in-Proved.ensures) cut))))
+    (subst (λ t. IsCutShort name t before after) c.deref.ensures.value (subst (λ n. IsCutShort n c.deref.result.now before after) (c.as_str.ensures.value ∙ c.in_ok-name-in-Proved.ensures) cut))))
     c.store.ensures.err
