@@ -5,3 +5,4 @@ mod Once
 pub mod Reading
 mod Agreeing
 pub mod Satisfied
+mod Rows
