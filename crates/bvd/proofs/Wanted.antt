@@ -3,7 +3,7 @@ use Rattle.std.proofs.Common.{◌≡◌, ℕ, List, refl, sym, subst}
 use Rattle.bvd_host.specs.Outside.{Outside}
 use Rattle.bvd_top.proofs.Endings.{wanting}
 use Rattle.bvd_top.specs.Ending.{Ending}
-use Rattle.bvd_top.specs.Words.{request_of}
+use Rattle.bvd_words.specs.Requests.{request_of}
 
 -- it ends so where it began
 pub wanted_at_once : (words : List (List ℕ)) (here : Outside) (status : ℕ) → status ≡ 7 → Ending words here here status

@@ -6,7 +6,7 @@ ghost use Rattle.std.specs.Vec.Iter.{into_iter_items};
 ghost use Rattle.bvd_host.specs.Causes.{Rose};
 ghost use Rattle.bvd_host.specs.Files.{Files};
 ghost use Rattle.bvd_host.specs.Outside.{outside, CountsStay, IsHonest};
-ghost use Rattle.bvd_top.specs.Words.{request_of};
+ghost use Rattle.bvd_words.specs.Requests.{request_of};
 ghost use Rattle.bvd_top.specs.Ending.{Ending, Does};
 ghost use Rattle.bvd.specs.Given.{words_given};
 

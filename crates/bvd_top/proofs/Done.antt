@@ -6,13 +6,13 @@ use Rattle.bvd_host.specs.Causes.{Rose}
 use Rattle.bvd_host.specs.Outside.{Outside, KeeperFailed, SinkFailed, IsHonest}
 use Rattle.bv_lines.specs.Statement.{Statement}
 use Rattle.bvd_words.specs.Requests.{Command, Prove, Alone, Check, Cnf, Request}
-use Rattle.bvd_report.specs.Report.{Told, Proved, False, Budget, Deep, Large, OutOfMemory, Clauses, Accepted, Refused, NoEmptyClause, AbsentCertificate, Line, Found, Part, goals_of, report, certificates, status_of, found_status, goals_status, told_status}
-use Rattle.goal_files.specs.declared.file.Form.{Form}
+use Rattle.bvd_report.specs.Report.{Told, Proved, False, Budget, Deep, Large, OutOfMemory, Clauses, Accepted, Refused, NoEmptyClause, AbsentCertificate, Line, Found, Part, certificate_name, goals_of, report, certificates, status_of, found_status, goals_status, told_status}
 use Rattle.bvd_top.specs.Words.{usage}
 use Rattle.bvd_top.specs.Storing.{with_all}
 use Rattle.bvd_top.specs.Stated.{Stated, Absent, NotYet, Goals, Read, AreRead}
-use Rattle.bvd_top.specs.Told.{form_of, IsTold, AreTold}
+use Rattle.bvd_top.specs.Told.{IsTold, AreTold}
 use Rattle.bvd_top.specs.Parts.{IsFound, AreFound, ArePartsOf}
+use Rattle.bvd_top.proofs.Checked.{checked_told}
 use Rattle.bvd_top.specs.Ending.{Stops, Tells, AnsweredIf, Does}
 
 not_stopped : (F : Type 0) (status : ℕ) → ¬ F → status ≢ 7 → Stops F status → ⊥
@@ -25,17 +25,17 @@ whole text added own status before after told holds seven (inl t) = (t.0 ∙ ap 
 whole text added own status before after told holds seven (inr t) = absurd (not_stopped (SinkFailed before after) status holds seven t.2)
 
 -- where the files are told, nothing hangs on missing files
-reads_told : (form : Form) (files : Files) (m n : Type 0) (names : List (List ℕ)) (reads : List Read) → AreRead form (Some files) m names reads → AreRead form (Some files) n names reads
-reads_told form files m n [] [] are = are
-reads_told form files m n [] (read ∷ reads) are = are
-reads_told form files m n (name ∷ names) [] are = are
-reads_told form files m n (name ∷ names) (read ∷ reads) are = (are.0, are.1, reads_told form files m n names reads are.2)
+reads_told : (files : Files) (m n : Type 0) (names : List (List ℕ)) (reads : List Read) → AreRead (Some files) m names reads → AreRead (Some files) n names reads
+reads_told files m n [] [] are = are
+reads_told files m n [] (read ∷ reads) are = are
+reads_told files m n (name ∷ names) [] are = are
+reads_told files m n (name ∷ names) (read ∷ reads) are = (are.0, are.1, reads_told files m n names reads are.2)
 
 goal_told : (command : Command) (steps : ℕ) (files : Files) (m n : Type 0) (k : ℕ) (goal : Statement) (told : Told) → IsTold command steps (Some files) m k goal told
     → IsTold command steps (Some files) n k goal told
 goal_told Prove steps files m n k goal told is = is
 goal_told Alone steps files m n k goal told is = is
-goal_told Check steps files m n k goal told is = is
+goal_told Check steps files m n k goal told is = checked_told files m n (certificate_name k) goal told is
 goal_told Cnf steps files m n k goal told is = is
 
 goals_told : (request : Request) (files : Files) (m n : Type 0) (k : ℕ) (goals : List Statement) (lines : List Line) → AreTold request (Some files) m k goals lines
@@ -62,7 +62,7 @@ files_told request files m n k (read ∷ reads) (part ∷ parts) are =
     (are.0, file_told request files m n k read.stated part.found are.1, files_told request files m n (k + length (goals_of part.found)) reads parts are.2)
 
 parts_told : (request : Request) (files : Files) (m n : Type 0) (parts : List Part) → ArePartsOf (Some files) m request parts → ArePartsOf (Some files) n request parts
-parts_told request files m n parts are = (are.0, reads_told (form_of request.command) files m n request.files are.0 are.1, files_told request files m n 1 are.0 parts are.2)
+parts_told request files m n parts are = (are.0, reads_told files m n request.files are.0 are.1, files_told request files m n 1 are.0 parts are.2)
 
 pub done : (o : Option Request) (files : Files) (text : List ℕ) (before after : Outside) (status : ℕ) → IsHonest before after files text → status ≢ 7 → AnsweredIf o before after status → Does o files text after status
 done None files text before after status honest seven r =

@@ -13,7 +13,6 @@ use Rattle.bvd_top.specs.declared.stop.Stop.TheVariants.{Device, Memory}
 use Rattle.bvd_top.specs.Words.{usage}
 use Rattle.bvd_top.specs.Storing.{IsPartlyStored, with_all}
 use Rattle.bvd_top.specs.Stated.{Read, AreRead}
-use Rattle.bvd_top.specs.Told.{form_of}
 use Rattle.bvd_top.specs.Parts.{AreFound, ArePartsOf}
 use Rattle.bvd_top.specs.Ending.{Stops, Tells, Answered, AnsweredIf, status_in}
 use Rattle.bvd_top.proofs.Rising.{rose_later, rose_earlier}
@@ -21,17 +20,17 @@ use Rattle.bvd_top.proofs.FilesRead.{reads_later}
 use Rattle.bvd_top.proofs.GoalsTold.{parts_later}
 
 -- the files were read, and then their goals were replied to
-pub parts_found : (request : Request) (files mid : Option Files) (m0 m1 m2 : ℕ) (reads : List Read) (parts : List Part) → AreRead (form_of request.command) files (Rose m0 m1) request.files reads
+pub parts_found : (request : Request) (files mid : Option Files) (m0 m1 m2 : ℕ) (reads : List Read) (parts : List Part) → AreRead files (Rose m0 m1) request.files reads
     → mid ≡ files → m0 ≤ m1 → m1 ≤ m2 → AreFound request mid (Rose m1 m2) 1 reads parts → ArePartsOf files (Rose m0 m2) request parts
 parts_found request files mid m0 m1 m2 reads parts read same h k found = (
   reads,
-  reads_later (form_of request.command) files (Rose m0 m1) (Rose m0 m2) request.files reads (rose_later m0 m1 m2 k) read,
+  reads_later files (Rose m0 m1) (Rose m0 m2) request.files reads (rose_later m0 m1 m2 k) read,
   parts_later request files (Rose m1 m2) (Rose m0 m2) 1 reads parts (rose_earlier m0 m1 m2 h) (subst (λ f. AreFound request f (Rose m1 m2) 1 reads parts) same found),
 )
 
 parts_of_later : (request : Request) (files : Option Files) (m n : Type 0) (parts : List Part) → (m → n) → ArePartsOf files m request parts → ArePartsOf files n request parts
 parts_of_later request files m n parts f are =
-    (are.0, reads_later (form_of request.command) files m n request.files are.0 f are.1, parts_later request files m n 1 are.0 parts f are.2)
+    (are.0, reads_later files m n request.files are.0 f are.1, parts_later request files m n 1 are.0 parts f are.2)
 
 pub names_next : {A : Type 0} (f : A → List ℕ) (ns : List A) (i : ℕ) (d : A) → i < length ns → map f (take (i + 1) ns) ≡ map f (take i ns) ++ f (get_or ns i d) ∷ []
 names_next f ns i d h =

@@ -5,17 +5,18 @@ use Rattle.bvd_host.specs.Files.{Files}
 use Rattle.bvd_host.specs.Causes.{Rose}
 use Rattle.bv_lines.specs.Statement.{Statement}
 use Rattle.bvd_words.specs.Requests.{Command, Prove, Alone, Check, Cnf, Request}
-use Rattle.bvd_report.specs.Report.{Told, Line, Found, Part, goals_of, all_goals}
+use Rattle.bvd_report.specs.Report.{Told, Line, certificate_name, Found, Part, goals_of, all_goals}
 use Rattle.bvd_top.specs.Stated.{Stated, Absent, NotYet, Goals, Read, goals_stated}
 use Rattle.bvd_top.specs.Told.{IsTold, AreTold}
 use Rattle.bvd_top.specs.Parts.{IsFound, AreFound}
+use Rattle.bvd_top.proofs.Checked.{checked_later}
 use Rattle.bvd_top.proofs.Rising.{rose_later, rose_earlier}
 
 told_later : (command : Command) (steps : ℕ) (files : Option Files) (m n : Type 0) (k : ℕ) (goal : Statement) (told : Told) → (m → n)
     → IsTold command steps files m k goal told → IsTold command steps files n k goal told
 told_later Prove steps files m n k goal told f is = is
 told_later Alone steps files m n k goal told f is = is
-told_later Check steps files m n k goal told f is = is
+told_later Check steps files m n k goal told f is = checked_later files m n (certificate_name k) goal told f is
 told_later Cnf steps files m n k goal told f is = is
 
 all_later : (request : Request) (files : Option Files) (m n : Type 0) (k : ℕ) (goals : List Statement) (lines : List Line) → (m → n)

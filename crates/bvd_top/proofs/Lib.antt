@@ -1,4 +1,5 @@
 pub mod Rising
+pub mod Checked
 pub mod Fronts
 pub mod Stored
 pub mod Written

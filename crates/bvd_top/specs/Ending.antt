@@ -5,8 +5,8 @@ use Rattle.bvd_host.specs.Causes.{Rose}
 use Rattle.bvd_host.specs.Outside.{Outside, KeeperFailed, SinkFailed}
 use Rattle.bvd_top.specs.declared.stop.Stop.{Stop}
 use Rattle.bvd_top.specs.declared.stop.Stop.TheVariants.{Device, Memory}
-use Rattle.bvd_words.specs.Requests.{Request}
-use Rattle.bvd_top.specs.Words.{request_of, usage}
+use Rattle.bvd_words.specs.Requests.{Request, request_of}
+use Rattle.bvd_top.specs.Words.{usage}
 use Rattle.bvd_report.specs.Report.{Part, report, certificates, status_of}
 use Rattle.bvd_top.specs.Storing.{IsPartlyStored, with_all}
 use Rattle.bvd_top.specs.Parts.{ArePartsOf}

@@ -4,7 +4,7 @@ use Rattle.bvd_host.specs.Files.{Files}
 use Rattle.bvd_words.specs.Requests.{Request}
 use Rattle.bvd_report.specs.Report.{Found, Part, goals_of}
 use Rattle.bvd_top.specs.Stated.{Stated, Absent, NotYet, Goals, Read, AreRead}
-use Rattle.bvd_top.specs.Told.{AreTold, form_of}
+use Rattle.bvd_top.specs.Told.{AreTold}
 
 -- what became of a file that states this, its goals being numbered from k on
 abbrev pub IsFound : Request → Option Files → Type 0 → ℕ → Stated → Found → Type 0
@@ -24,4 +24,4 @@ AreFound request files missing k (read ∷ reads) (part ∷ parts) =
 
 -- the parts of a run over these files
 abbrev pub ArePartsOf : Option Files → Type 0 → Request → List Part → Type 0
-ArePartsOf files missing request parts = (reads : List Read) × AreRead (form_of request.command) files missing request.files reads × AreFound request files missing 1 reads parts
+ArePartsOf files missing request parts = (reads : List Read) × AreRead files missing request.files reads × AreFound request files missing 1 reads parts

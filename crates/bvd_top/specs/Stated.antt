@@ -2,7 +2,6 @@
 use Rattle.std.specs.Prelude.{◌≡◌, ◌⊎◌, ◌≤◌, ℕ, List, [], ◌∷◌, Option, Some, None, ⊤, length}
 use Rattle.bvd_host.specs.Files.{Files, file_at}
 use Rattle.bv_lines.specs.Statement.{Statement}
-use Rattle.goal_files.specs.declared.file.Form.{Form}
 use Rattle.goal_files.specs.Files.{goals_in}
 
 -- what a file states: it isn't there, it isn't in the form, or its goals
@@ -21,21 +20,21 @@ stated_of None = NotYet
 stated_of (Some goals) = Goals goals
 
 -- what a file states that may be there
-abbrev pub stated_in : Form → Option (List ℕ) → Stated
-stated_in form None = Absent
-stated_in form (Some bytes) = stated_of (goals_in form bytes)
+abbrev pub stated_in : Option (List ℕ) → Stated
+stated_in None = Absent
+stated_in (Some bytes) = stated_of (goals_in bytes)
 
 -- What a file states. Where the files aren't told, it is absent only where `missing` holds, and else it states what some bytes state.
-abbrev pub IsStated : Form → Option Files → Type 0 → List ℕ → Stated → Type 0
-IsStated form (Some files) missing name stated = stated ≡ stated_in form (file_at files name)
-IsStated form None missing name stated = ((stated ≡ Absent) × missing) ⊎ ((bytes : List ℕ) × (stated ≡ stated_in form (Some bytes)))
+abbrev pub IsStated : Option Files → Type 0 → List ℕ → Stated → Type 0
+IsStated (Some files) missing name stated = stated ≡ stated_in (file_at files name)
+IsStated None missing name stated = ((stated ≡ Absent) × missing) ⊎ ((bytes : List ℕ) × (stated ≡ stated_in (Some bytes)))
 
 -- the files of these names as they were read, in order
-abbrev pub AreRead : Form → Option Files → Type 0 → List (List ℕ) → List Read → Type 0
-AreRead form files missing [] [] = ⊤
-AreRead form files missing [] (read ∷ reads) = ⊥
-AreRead form files missing (name ∷ names) [] = ⊥
-AreRead form files missing (name ∷ names) (read ∷ reads) = (read.path ≡ name) × IsStated form files missing name read.stated × AreRead form files missing names reads
+abbrev pub AreRead : Option Files → Type 0 → List (List ℕ) → List Read → Type 0
+AreRead files missing [] [] = ⊤
+AreRead files missing [] (read ∷ reads) = ⊥
+AreRead files missing (name ∷ names) [] = ⊥
+AreRead files missing (name ∷ names) (read ∷ reads) = (read.path ≡ name) × IsStated files missing name read.stated × AreRead files missing names reads
 
 -- the goals that a file states
 abbrev pub goals_stated : Stated → List Statement

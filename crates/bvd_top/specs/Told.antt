@@ -3,24 +3,16 @@ use Rattle.std.specs.Prelude.{◌≡◌, ℕ, ◌+◌, List, [], ◌∷◌, Opti
 use Rattle.bvd_host.specs.Files.{Files}
 use Rattle.bvd_words.specs.Requests.{Command, Prove, Alone, Check, Cnf, Request}
 use Rattle.bv_lines.specs.Statement.{Statement}
-use Rattle.bvd_report.specs.Report.{Told, Line}
-use Rattle.goal_files.specs.declared.file.Form.{Form}
-use Rattle.goal_files.specs.declared.file.Form.TheVariants.{Closed, Truths}
+use Rattle.bvd_report.specs.Report.{Told, Line, certificate_name}
+use Rattle.goal_replies.specs.Solved.{IsSolved}
+use Rattle.goal_replies.specs.Checked.{IsChecked}
 use Rattle.goal_replies.specs.Clauses.{IsClausesTold}
-use Rattle.goal_replies.specs.Closed.{IsClosedTold}
 
--- which lines the files of a command may have
-abbrev pub form_of : Command → Form
-form_of Prove = Closed
-form_of Alone = Closed
-form_of Check = Closed
-form_of Cnf = Truths
-
--- what a command tells of the run's k-th goal; `files` and `missing` are as in the run
+-- what a command tells of the run's k-th goal: the answer within a budget of steps, what its certificate among the files comes to, or its clauses
 abbrev pub IsTold : Command → ℕ → Option Files → Type 0 → ℕ → Statement → Told → Type 0
-IsTold Prove steps files missing k goal told = IsClosedTold goal told
-IsTold Alone steps files missing k goal told = ⊥
-IsTold Check steps files missing k goal told = ⊥
+IsTold Prove steps files missing k goal told = IsSolved steps goal told
+IsTold Alone steps files missing k goal told = IsSolved steps goal told
+IsTold Check steps files missing k goal told = IsChecked files missing (certificate_name k) goal told
 IsTold Cnf steps files missing k goal told = IsClausesTold goal told
 
 -- what is told of goals that are numbered from k on, each under its name

@@ -10,7 +10,7 @@ use crate::reading::{FileRead, read_file};
 use crate::stop::Stop;
 use bv_expr::Goal;
 use bvd_host::keeper::Keeper;
-use goal_files::file::{self, Form};
+use goal_files::file;
 use std::alloc::{AllocError, Global};
 
 /// What a file states.
@@ -29,22 +29,22 @@ pub struct Read<'a> {
 }
 
 /// What the bytes of a file state.
-fn stated_in(alloc: Global, form: Form, bytes: &[u8]) -> Result<Stated, AllocError>
-    ensures stated { IfOk result (λ s. stated_shown s ≡ stated_in form (Some bytes.now)) }
+fn stated_in(alloc: Global, bytes: &[u8]) -> Result<Stated, AllocError>
+    ensures stated { IfOk result (λ s. stated_shown s ≡ stated_in (Some bytes.now)) }
     ensures small { IfOk result (λ s. IsSmall (stated_shown s)) }
-    ensures decidable { IfOk result (AreDecidable form) }
+    ensures decidable { IfOk result AreDecidable }
 {
-    match file::goals_in(alloc, form, bytes)? {
+    match file::goals_in(alloc, bytes)? {
         Some(goals) => Ok(Stated::Goals(goals)),
         None => Ok(Stated::NotYet),
     }
 }
 
 /// What a file states; one of more bytes than the form has isn't read.
-fn find<K: Keeper>(alloc: Global, form: Form, keeper: &mut K, name: &str) -> Result<Stated, Stop>
-    ensures stated { IfOk result (λ s. IsStated form (K.files keeper.old) (Rose (K.missing keeper.old) (K.missing keeper.new)) name.now (stated_shown s)) }
+fn find<K: Keeper>(alloc: Global, keeper: &mut K, name: &str) -> Result<Stated, Stop>
+    ensures stated { IfOk result (λ s. IsStated (K.files keeper.old) (Rose (K.missing keeper.old) (K.missing keeper.new)) name.now (stated_shown s)) }
     ensures small { IfOk result (λ s. IsSmall (stated_shown s)) }
-    ensures decidable { IfOk result (AreDecidable form) }
+    ensures decidable { IfOk result AreDecidable }
     ensures files { K.files keeper.new ≡ K.files keeper.old }
     ensures faults { K.faults keeper.old ≤ K.faults keeper.new }
     ensures missing { K.missing keeper.old ≤ K.missing keeper.new }
@@ -53,7 +53,7 @@ fn find<K: Keeper>(alloc: Global, form: Form, keeper: &mut K, name: &str) -> Res
     match read_file(alloc, keeper, name, file::MOST_BYTES as u64)? {
         FileRead::Absent => Ok(Stated::Absent),
         FileRead::TooLong => Ok(Stated::NotYet),
-        FileRead::Bytes(bytes) => Ok(stated_in(alloc, form, &bytes)?),
+        FileRead::Bytes(bytes) => Ok(stated_in(alloc, &bytes)?),
     }
 }
 
@@ -61,14 +61,13 @@ fn find<K: Keeper>(alloc: Global, form: Form, keeper: &mut K, name: &str) -> Res
 /// Errors: the keeper failed, or want of memory. Cost: linear in the files, each of which is read once.
 pub fn find_all<'a, K: Keeper>(
     alloc: Global,
-    form: Form,
     keeper: &mut K,
     names: &[&'a str],
 ) -> Result<Vec<Read<'a>>, Stop>
-    ensures read { IfOk result (λ reads. AreRead form (K.files keeper.old) (Rose (K.missing keeper.old) (K.missing keeper.new)) (map (λ n. n.now) names.now) (reads_shown reads.items)) }
+    ensures read { IfOk result (λ reads. AreRead (K.files keeper.old) (Rose (K.missing keeper.old) (K.missing keeper.new)) (map (λ n. n.now) names.now) (reads_shown reads.items)) }
     ensures count { IfOk result (λ reads. length reads.items ≡ length names.now) }
     ensures small { IfOk result (λ reads. All (λ r. IsSmall (stated_shown r.stated)) reads.items) }
-    ensures decidable { IfOk result (λ reads. All (λ r. AreDecidable form r.stated) reads.items) }
+    ensures decidable { IfOk result (λ reads. All (λ r. AreDecidable r.stated) reads.items) }
     ensures files { K.files keeper.new ≡ K.files keeper.old }
     ensures faults { K.faults keeper.old ≤ K.faults keeper.new }
     ensures missing { K.missing keeper.old ≤ K.missing keeper.new }
@@ -76,7 +75,7 @@ pub fn find_all<'a, K: Keeper>(
 {
     let mut reads = Vec::new(alloc);
     'names: for name in names {
-        let stated = find(alloc, form, keeper, name)?;
+        let stated = find(alloc, keeper, name)?;
         keep(
             &mut reads,
             Read {

@@ -11,4 +11,3 @@ pub mod storing;
 pub mod telling;
 #[cfg(test)]
 mod tests;
-pub mod words;

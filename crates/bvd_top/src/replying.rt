@@ -4,10 +4,11 @@ ghost use Rattle.bvd_host.specs.Causes.{Rose};
 ghost use Rattle.bv_lines.specs.Statement.{statement_of};
 ghost use Rattle.bvd_words.specs.Asked.{command_shown, request_shown};
 ghost use Rattle.goal_files.specs.Files.{IsDecidable};
-ghost use Rattle.bvd_report.specs.Report.{all_goals, goals_of};
+ghost use Rattle.bvd_report.specs.Report.{all_goals, certificate_name, goals_of};
 ghost use Rattle.bvd_report.specs.Shown.{told_shown, line_shown, lines_shown, found_shown, parts_shown};
+ghost use Rattle.goal_replies.specs.Checked.{IsChecked};
 ghost use Rattle.bvd_top.specs.Stated.{IsSmall};
-ghost use Rattle.bvd_top.specs.Told.{form_of, IsTold, AreTold};
+ghost use Rattle.bvd_top.specs.Told.{IsTold, AreTold};
 ghost use Rattle.bvd_top.specs.Parts.{IsFound, AreFound};
 ghost use Rattle.bvd_top.specs.Shown.{stated_shown, reads_shown};
 ghost use Rattle.bvd_top.specs.Decided.{AreDecidable};
@@ -17,20 +18,32 @@ use crate::keeping::keep;
 use crate::stop::Stop;
 use bv_expr::Goal;
 use bvd_host::keeper::Keeper;
+use bvd_report::goal_line::certificate_name;
 use bvd_report::told::{Found, Line, Part, Told, goals_of};
 use bvd_words::request::{Command, Request};
-use goal_files::file::Form;
+use goal_replies::checking::told_check;
 use goal_replies::clauses::told_clauses;
-use goal_replies::closed::told_closed;
+use goal_replies::solving::told_answer;
 use std::alloc::Global;
 
-/// Which lines the files of a command may have.
-pub fn form_of(command: Command) -> Form
-    ensures { result ≡ form_of (command_shown command) }
+/// What `check` tells of the goal of a number, by the certificate that is stored for it.
+fn told_stored<K: Keeper>(
+    alloc: Global,
+    keeper: &mut K,
+    number: usize,
+    goal: &Goal,
+) -> Result<Told, Stop>
+    requires { IsDecidable goal.now }
+    ensures told { IfOk result (λ told. IsChecked (K.files keeper.old) (Rose (K.missing keeper.old) (K.missing keeper.new)) (certificate_name number) (statement_of goal.now) (told_shown told)) }
+    ensures files { K.files keeper.new ≡ K.files keeper.old }
+    ensures faults { K.faults keeper.old ≤ K.faults keeper.new }
+    ensures missing { K.missing keeper.old ≤ K.missing keeper.new }
+    ensures device { IsErrOf result Stop.Device → Rose (K.faults keeper.old) (K.faults keeper.new) }
 {
-    match command {
-        Command::Prove | Command::Alone | Command::Check => Form::Closed,
-        Command::Cnf => Form::Truths,
+    let name = certificate_name(alloc, number)?;
+    match told_check(alloc, keeper, name.as_str(), goal) {
+        Ok(told) => Ok(told),
+        Err(_) => Err(Stop::Device),
     }
 }
 
@@ -42,7 +55,8 @@ fn told_of<K: Keeper>(
     number: usize,
     goal: &Goal,
 ) -> Result<Told, Stop>
-    requires { IsDecidable (form_of (command_shown request.now.command)) goal.now }
+    requires decidable { IsDecidable goal.now }
+    requires budget { request.now.steps ≤ 1000000000 }
     ensures told { IfOk result (λ told. IsTold (command_shown request.now.command) request.now.steps (K.files keeper.old) (Rose (K.missing keeper.old) (K.missing keeper.new)) number (statement_of goal.now) (told_shown told)) }
     ensures files { K.files keeper.new ≡ K.files keeper.old }
     ensures faults { K.faults keeper.old ≤ K.faults keeper.new }
@@ -50,10 +64,9 @@ fn told_of<K: Keeper>(
     ensures device { IsErrOf result Stop.Device → Rose (K.faults keeper.old) (K.faults keeper.new) }
 {
     match request.command {
-        Command::Prove => Ok(told_closed(alloc, goal)?),
+        Command::Prove | Command::Alone => Ok(told_answer(alloc, goal, request.steps)),
+        Command::Check => told_stored(alloc, keeper, number, goal),
         Command::Cnf => Ok(told_clauses(alloc, goal)?),
-        // The words refuse these.
-        Command::Alone | Command::Check => Err(Stop::Memory),
     }
 }
 
@@ -65,7 +78,8 @@ fn line_of<K: Keeper>(
     number: usize,
     goal: Goal,
 ) -> Result<Line, Stop>
-    requires { IsDecidable (form_of (command_shown request.now.command)) goal }
+    requires decidable { IsDecidable goal }
+    requires budget { request.now.steps ≤ 1000000000 }
     ensures name { IfOk result (λ line. (line_shown line).name ≡ goal.name) }
     ensures told { IfOk result (λ line. IsTold (command_shown request.now.command) request.now.steps (K.files keeper.old) (Rose (K.missing keeper.old) (K.missing keeper.new)) number (statement_of goal) (line_shown line).told) }
     ensures files { K.files keeper.new ≡ K.files keeper.old }
@@ -88,7 +102,8 @@ fn reply_to_goals<K: Keeper>(
     first: usize,
     goals: Vec<Goal>,
 ) -> Result<Vec<Line>, Stop>
-    requires decidable { All (IsDecidable (form_of (command_shown request.now.command))) goals.items }
+    requires decidable { All IsDecidable goals.items }
+    requires budget { request.now.steps ≤ 1000000000 }
     requires few { first + length goals.items < 2 ^ 64 }
     ensures told { IfOk result (λ lines. AreTold (request_shown request.now) (K.files keeper.old) (Rose (K.missing keeper.old) (K.missing keeper.new)) first (map statement_of goals.items) (lines_shown lines.items)) }
     ensures files { K.files keeper.new ≡ K.files keeper.old }
@@ -114,7 +129,8 @@ fn reply_to_file<K: Keeper>(
     first: usize,
     stated: Stated,
 ) -> Result<Found, Stop>
-    requires decidable { AreDecidable (form_of (command_shown request.now.command)) stated }
+    requires decidable { AreDecidable stated }
+    requires budget { request.now.steps ≤ 1000000000 }
     requires small { IsSmall (stated_shown stated) }
     requires few { first ≤ 2 ^ 63 }
     ensures found { IfOk result (λ found. IsFound (request_shown request.now) (K.files keeper.old) (Rose (K.missing keeper.old) (K.missing keeper.new)) first (stated_shown stated) (found_shown found)) }
@@ -141,7 +157,8 @@ pub fn reply_all<'a, K: Keeper>(
     request: &Request<'_>,
     reads: Vec<Read<'a>>,
 ) -> Result<Vec<Part<'a>>, Stop>
-    requires decidable { All (λ r. AreDecidable (form_of (command_shown request.now.command)) r.stated) reads.items }
+    requires decidable { All (λ r. AreDecidable r.stated) reads.items }
+    requires budget { request.now.steps ≤ 1000000000 }
     requires small { All (λ r. IsSmall (stated_shown r.stated)) reads.items }
     requires few { length reads.items ≤ 64 }
     ensures found { IfOk result (λ parts. AreFound (request_shown request.now) (K.files keeper.old) (Rose (K.missing keeper.old) (K.missing keeper.new)) 1 (reads_shown reads.entry.items) (parts_shown parts.items)) }

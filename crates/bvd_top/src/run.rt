@@ -7,21 +7,21 @@ ghost use Rattle.bvd_words.specs.Asked.{request_shown};
 ghost use Rattle.bvd_report.specs.Report.{all_goals};
 ghost use Rattle.bvd_report.specs.Shown.{parts_shown};
 ghost use Rattle.bvd_top.specs.Parts.{ArePartsOf};
-ghost use Rattle.bvd_top.specs.Words.{usage, request_of};
+ghost use Rattle.bvd_words.specs.Requests.{request_of};
+ghost use Rattle.bvd_top.specs.Words.{usage};
 ghost use Rattle.bvd_top.specs.Ending.{Ending, Answered, Does, status_in};
 
 use crate::finding::find_all;
-use crate::replying::{form_of, reply_all};
+use crate::replying::reply_all;
 use crate::stop::Stop;
 use crate::storing::store_certificates;
 use crate::telling::tell;
-use crate::words::read_words;
 use bvd_host::keeper::Keeper;
 use bvd_host::sink::Sink;
 use bvd_report::report::report;
 use bvd_report::status::status_of;
 use bvd_report::told::Part;
-use bvd_words::request::Request;
+use bvd_words::request::{Request, read_words};
 use std::alloc::{AllocError, Global};
 
 /// What became of each file: all files are read, and then their goals are replied to.
@@ -30,7 +30,8 @@ fn parts_of<'a, K: Keeper>(
     request: &Request<'a>,
     keeper: &mut K,
 ) -> Result<Vec<Part<'a>>, Stop>
-    requires { length request.now.files.items ≤ 64 }
+    requires few { length request.now.files.items ≤ 64 }
+    requires budget { request.now.steps ≤ 1000000000 }
     ensures found { IfOk result (λ parts. ArePartsOf (K.files keeper.old) (Rose (K.missing keeper.old) (K.missing keeper.new)) (request_shown request.now) (parts_shown parts.items)) }
     ensures few { IfOk result (λ parts. length (all_goals (parts_shown parts.items)) ≤ 65536) }
     ensures files { K.files keeper.new ≡ K.files keeper.old }
@@ -38,7 +39,7 @@ fn parts_of<'a, K: Keeper>(
     ensures missing { K.missing keeper.old ≤ K.missing keeper.new }
     ensures device { IsErrOf result Stop.Device → Rose (K.faults keeper.old) (K.faults keeper.new) }
 {
-    let reads = find_all(alloc, form_of(request.command), keeper, &request.files)?;
+    let reads = find_all(alloc, keeper, &request.files)?;
     reply_all(alloc, keeper, request, reads)
 }
 
@@ -49,7 +50,8 @@ fn answer<K: Keeper, S: Sink>(
     keeper: &mut K,
     out: &mut S,
 ) -> Result<u8, Stop>
-    requires { length request.now.files.items ≤ 64 }
+    requires few { length request.now.files.items ≤ 64 }
+    requires budget { request.now.steps ≤ 1000000000 }
     ensures counts { CountsStay (outside K.files K.faults K.missing S.written S.faults keeper.old out.old) (outside K.files K.faults K.missing S.written S.faults keeper.new out.new) }
     ensures ending { Answered (request_shown request.now) (outside K.files K.faults K.missing S.written S.faults keeper.old out.old) (outside K.files K.faults K.missing S.written S.faults keeper.new out.new) (status_in result) }
 {
@@ -101,9 +103,10 @@ fn end<K: Keeper, S: Sink>(alloc: Global, words: &[String], keeper: &mut K, out:
 /// | Status | Comes |
 /// |---|---|
 /// | 0 | where none of the others does |
-/// | 1 | exactly where a goal is false |
+/// | 1 | exactly where a goal is false or a certificate is refused |
 /// | 2 | exactly where the words are refused: the usage is told, and nothing is read or written |
-/// | 4 | exactly where a file is absent or isn't in the form |
+/// | 3 | exactly where a goal's steps are spent, or its circuit is too deep or too large |
+/// | 4 | exactly where a file or a certificate is absent, or a file isn't in the form |
 /// | 6 | only where the keeper's or the sink's count of faults rose in this call |
 /// | 7 | for want of memory, and for no other cause |
 ///

@@ -28,17 +28,20 @@ struct Ran {
     second: Option<Vec<u8>>,
 }
 
-/// Runs the words over `a.lean`, where it has bytes.
-fn run(
+/// A file: its name and its bytes.
+type File<'a> = (&'a str, &'a [u8]);
+
+/// Runs the words over these files.
+fn run_over(
     alloc: Global,
     words: &[&str],
-    file: Option<&[u8]>,
+    files: &[File<'_>],
     failing: Failing,
 ) -> Result<Ran, AllocError> {
-    let mut files = BTreeMap::new(alloc);
-    if let Some(bytes) = file {
-        files.insert(
-            String::from_str(alloc, "a.lean")?,
+    let mut kept_files = BTreeMap::new(alloc);
+    for (name, bytes) in files {
+        kept_files.insert(
+            String::from_str(alloc, name)?,
             Vec::from_slice(alloc, bytes)?,
         )?;
     }
@@ -48,7 +51,7 @@ fn run(
     }
     let reads = Vec::from_slice(alloc, &[failing.read])?;
     let writes = Vec::from_slice(alloc, &[failing.write])?;
-    let mut keeper = MapKeeper::new(alloc, files, reads, writes);
+    let mut keeper = MapKeeper::new(alloc, kept_files, reads, writes);
     let mut out = VecSink::new(alloc, Vec::from_slice(alloc, &[failing.told])?);
     let status = run_single(alloc, &owned, &mut keeper, &mut out);
     Ok(Ran {
@@ -57,6 +60,19 @@ fn run(
         first: kept(alloc, &keeper, "goal-1.lrat")?,
         second: kept(alloc, &keeper, "goal-2.lrat")?,
     })
+}
+
+/// Runs the words over `a.lean`, where it has bytes.
+fn run(
+    alloc: Global,
+    words: &[&str],
+    file: Option<&[u8]>,
+    failing: Failing,
+) -> Result<Ran, AllocError> {
+    match file {
+        Some(bytes) => run_over(alloc, words, &[("a.lean", bytes)], failing),
+        None => run_over(alloc, words, &[], failing),
+    }
 }
 
 /// What a file holds.
@@ -101,8 +117,8 @@ fn goals_and_faults_of_a_file(rt: HostRuntime) {
         ),
         (
             Some(b"theorem f (a : Bool) : a = true := by bv_decide"),
-            4,
-            b"file a.lean: not yet\ngoals: 0 proved, 0 false, 0 other\n",
+            1,
+            b"file a.lean\n1. f: false a = false\ngoals: 0 proved, 1 false, 0 other\n",
             false,
         ),
         (
@@ -167,6 +183,150 @@ fn failing_devices_leave_what_was_done_before(rt: HostRuntime) {
     }
 }
 
+/// What a run over one file tells: the words, the file, the status and the report.
+type Told<'a> = (&'a [&'a str], &'a [u8], u8, &'a [u8]);
+
+const EQUAL: &[u8] = b"theorem n (a b : Bool) : a = b := by bv_decide\n";
+
+const ASSOCIATIVE: &[u8] =
+    b"theorem t (a b c : Bool) : (a && (b && c)) = ((a && b) && c) := by bv_decide\n";
+
+#[test]
+fn searches_within_their_budgets(rt: HostRuntime) {
+    let rows: [Told<'_>; 8] = [
+        (
+            &["prove", "--steps", "1", "a.lean"],
+            SUM,
+            3,
+            b"file a.lean\n1. example: budget 1\ngoals: 0 proved, 0 false, 1 other\n",
+        ),
+        (
+            &["alone", "--steps=2", "a.lean"],
+            SUM,
+            0,
+            b"file a.lean\n1. example: proved goal-1.lrat\ngoals: 1 proved, 0 false, 0 other\n",
+        ),
+        (
+            &["alone", "--steps", "6", "a.lean"],
+            EQUAL,
+            1,
+            b"file a.lean\n1. n: false a = false, b = true\ngoals: 0 proved, 1 false, 0 other\n",
+        ),
+        (
+            &["alone", "--steps", "5", "a.lean"],
+            EQUAL,
+            3,
+            b"file a.lean\n1. n: budget 5\ngoals: 0 proved, 0 false, 1 other\n",
+        ),
+        (
+            &["alone", "--steps", "28", "a.lean"],
+            ASSOCIATIVE,
+            0,
+            b"file a.lean\n1. t: proved goal-1.lrat\ngoals: 1 proved, 0 false, 0 other\n",
+        ),
+        (
+            &["alone", "--steps", "27", "a.lean"],
+            ASSOCIATIVE,
+            3,
+            b"file a.lean\n1. t: budget 27\ngoals: 0 proved, 0 false, 1 other\n",
+        ),
+        (
+            &["prove", "--quiet", "a.lean", "b.lean"],
+            SUM,
+            4,
+            b"file b.lean: absent\ngoals: 1 proved, 0 false, 0 other\n",
+        ),
+        (
+            &["cnf", "a.lean"],
+            EQUAL,
+            0,
+            b"c 1 n\np cnf 6 11\n1 0\n-4 2 0\n-4 3 0\n4 -2 -3 0\n-5 -2 0\n-5 -3 0\n5 2 3 0\n-6 -4 0\n-6 -5 0\n6 4 5 0\n6 0\n",
+        ),
+    ];
+    for (words, file, status, report) in rows {
+        let ran = run(rt.alloc(), words, Some(file), NOTHING_FAILS).expect(&rt, "memory");
+        assert_eq!(rt; ran.status, status);
+        assert!(rt; ran.report.as_slice() == report);
+    }
+}
+
+#[test]
+fn goals_are_numbered_through_all_files(rt: HostRuntime) {
+    let files: [File<'_>; 2] = [
+        ("a.lean", EQUAL),
+        (
+            "b.lean",
+            b"theorem m (p q : Bool) : p = q := by bv_decide\n",
+        ),
+    ];
+    let words: [&str; 3] = ["prove", "a.lean", "b.lean"];
+    let ran = run_over(rt.alloc(), &words, &files, NOTHING_FAILS).expect(&rt, "memory");
+    assert_eq!(rt; ran.status, 1);
+    assert!(rt;
+        ran.report.as_slice()
+            == b"file a.lean\n1. n: false a = false, b = true\nfile b.lean\n2. m: false p = false, q = true\ngoals: 0 proved, 2 false, 0 other\n".as_slice()
+    );
+}
+
+/// The certificate of the associativity of three conjunctions.
+const LINES: &[u8] =
+    b"24 2 0 23 21 5 8 12 19 0\n25 3 0 23 21 2 9 6 12 19 0\n26 4 0 23 21 3 11 6 19 0\n27 0 23 20 24 25 10 26 4 13 7 16 0\n";
+
+/// The same with a hint less in its first line.
+const HINT_LESS: &[u8] =
+    b"24 2 0 23 21 5 8 12 0\n25 3 0 23 21 2 9 6 12 19 0\n26 4 0 23 21 3 11 6 19 0\n27 0 23 20 24 25 10 26 4 13 7 16 0\n";
+
+#[test]
+fn stored_certificates_are_checked(rt: HostRuntime) {
+    let proved = run(rt.alloc(), &PROVE, Some(ASSOCIATIVE), NOTHING_FAILS).expect(&rt, "memory");
+    assert!(rt; proved.first.is_some_and(|text| text.as_slice() == LINES));
+    let rows: [(&[File<'_>], u8, &[u8]); 4] = [
+        (
+            &[("a.lean", ASSOCIATIVE), ("goal-1.lrat", LINES)],
+            0,
+            b"file a.lean\n1. t: accepted goal-1.lrat\ngoals: 1 accepted, 0 refused, 0 other\n",
+        ),
+        (
+            &[("a.lean", ASSOCIATIVE), ("goal-1.lrat", HINT_LESS)],
+            1,
+            b"file a.lean\n1. t: refused goal-1.lrat line 1: missing group 7\ngoals: 0 accepted, 1 refused, 0 other\n",
+        ),
+        (
+            &[("a.lean", ASSOCIATIVE), ("goal-1.lrat", b"24 2 0 21 0\n")],
+            1,
+            b"file a.lean\n1. t: refused goal-1.lrat line 1: not unit 21\ngoals: 0 accepted, 1 refused, 0 other\n",
+        ),
+        (
+            &[("a.lean", ASSOCIATIVE)],
+            4,
+            b"file a.lean\n1. t: absent goal-1.lrat\ngoals: 0 accepted, 0 refused, 1 other\n",
+        ),
+    ];
+    for (files, status, report) in rows {
+        let words: [&str; 2] = ["check", "a.lean"];
+        let ran = run_over(rt.alloc(), &words, files, NOTHING_FAILS).expect(&rt, "memory");
+        assert_eq!(rt; ran.status, status);
+        assert!(rt; ran.report.as_slice() == report);
+    }
+}
+
+#[test]
+fn a_failing_read_of_a_certificate_ends_a_check(rt: HostRuntime) {
+    // The size and the bytes of the file, then those of the certificate.
+    let files: [File<'_>; 2] = [("a.lean", ASSOCIATIVE), ("goal-1.lrat", LINES)];
+    let words: [&str; 2] = ["check", "a.lean"];
+    for read in [3, 4] {
+        let failing = Failing {
+            read,
+            write: 0,
+            told: 0,
+        };
+        let ran = run_over(rt.alloc(), &words, &files, failing).expect(&rt, "memory");
+        assert_eq!(rt; ran.status, 6);
+        assert!(rt; ran.report.is_empty());
+    }
+}
+
 /// A false goal's line.
 const FALSE_LINE: &[u8] = b"example : 1#1 = 0#1 := by bv_decide\n";
 
@@ -214,12 +374,12 @@ fn refused_words_give_the_usage(rt: HostRuntime) {
         &[],
         &["prove"],
         &["help"],
-        &["prove", ""],
-        &["prove", "-"],
+        &["cnf", "a.lean", "a.lean"],
+        &["prove", "--workers", "1", "a.lean"],
         &["prove", "--"],
-        &["prove", "a.lean", "a.lean"],
-        &["prove", "--steps", "5", "a.lean"],
-        &["cnf", "a.lean"],
+        &["prove", "--steps", "0", "a.lean"],
+        &["prove", "--steps", "1", "--steps", "1", "a.lean"],
+        &["check", "-x"],
     ];
     // A call on the keeper would fail.
     let failing = Failing {

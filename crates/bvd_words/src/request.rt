@@ -1,7 +1,8 @@
 //! What the words of the command line ask for: the commands, their tables of options, and the request that words make.
-ghost use Rattle.std.specs.Prelude.{◌≡◌, ◌≤◌, option_map, map, string_bytes, length, IfOk, IfSome};
+ghost use Rattle.std.specs.Prelude.{◌≡◌, ◌≤◌, option_map, map, string_bytes, length, codes, IfOk, IfSome};
 ghost use Rattle.bvd_words.specs.Words as spec;
-ghost use Rattle.bvd_words.specs.Requests.{command_of, options_of, most_files, is_formed, request_from, request_of};
+ghost use Rattle.bvd_words.specs.Words.{text_of};
+ghost use Rattle.bvd_words.specs.Requests.{command_of, options_of, most_files, number_or, is_formed, request_from, request_of};
 ghost use Rattle.bvd_words.specs.Shown.{table, items_shown};
 ghost use Rattle.bvd_words.specs.Asked.{command_shown, request_shown};
 
@@ -80,6 +81,14 @@ pub fn most_files(command: Command) -> usize
     }
 }
 
+/// The step budget that items give.
+fn steps_of(items: &[Item<'_>]) -> Option<u64>
+    ensures steps { result ≡ number_or 10000000 1 1000000000 (text_of (codes "steps") (items_shown items.now)) }
+    ensures most { IfSome result (λ n. n ≤ 1000000000) }
+{
+    number_or(10_000_000, 1, 1_000_000_000, text_of(items, "steps"))
+}
+
 /// The request that items make.
 fn request_from<'a>(
     alloc: Global,
@@ -88,12 +97,13 @@ fn request_from<'a>(
 ) -> Result<Option<Request<'a>>, AllocError>
     ensures request { IfOk result (λ r. option_map request_shown r ≡ request_from (command_shown command) (items_shown items.now)) }
     ensures few { IfOk result (λ r. IfSome r (λ request. length request.files.items ≤ 64)) }
+    ensures most { IfOk result (λ r. IfSome r (λ request. request.steps ≤ 1000000000)) }
 {
     let files = files_of(alloc, items)?;
     if !is_each_once(items) || files.is_empty() || files.len() > most_files(command) {
         return Ok(None);
     }
-    match number_or(10_000_000, 1, 1_000_000_000, text_of(items, "steps")) {
+    match steps_of(items) {
         Some(steps) => Ok(Some(Request {
             command,
             steps,
@@ -109,6 +119,7 @@ fn request_from<'a>(
 pub fn read_words<'a>(alloc: Global, words: &'a [String]) -> Result<Option<Request<'a>>, AllocError>
     ensures request { IfOk result (λ r. option_map request_shown r ≡ request_of (map string_bytes words.now)) }
     ensures few { IfOk result (λ r. IfSome r (λ request. length request.files.items ≤ 64)) }
+    ensures most { IfOk result (λ r. IfSome r (λ request. request.steps ≤ 1000000000)) }
 {
     let [word, rest @ ..] = words else {
         return Ok(None);

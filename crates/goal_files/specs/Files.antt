@@ -6,27 +6,21 @@ use Rattle.bv_lines.specs.Closed as closed
 use Rattle.bv_lines.specs.Lines.{and_then, lines_of, or_else}
 use Rattle.bv_lines.specs.Statement.{Statement}
 use Rattle.truth_lines.specs.Truths as truths
-use Rattle.goal_files.specs.declared.file.Form.{Form}
-use Rattle.goal_files.specs.declared.file.Form.TheVariants.{Closed, Truths, Either}
 
--- the goal of a line that the form takes
-unfoldable pub goal_on : Form → List ℕ → Option Statement
-goal_on Closed line = closed.goal_in line
-goal_on Truths line = truths.goal_in line
-goal_on Either line = or_else (closed.goal_in line) (truths.goal_in line)
+-- the goal of a line, which states a closed equation or a truth
+unfoldable pub goal_on : List ℕ → Option Statement
+goal_on line = or_else (closed.goal_in line) (truths.goal_in line)
 
 -- the goals of lines, the empty ones aside
-abbrev pub goals_on : Form → List (List ℕ) → Option (List Statement)
-goals_on form [] = Some []
-goals_on form ([] ∷ lines) = goals_on form lines
-goals_on form ((c ∷ line) ∷ lines) = and_then (goal_on form (c ∷ line)) (λ goal. option_map (λ goals. goal ∷ goals) (goals_on form lines))
+abbrev pub goals_on : List (List ℕ) → Option (List Statement)
+goals_on [] = Some []
+goals_on ([] ∷ lines) = goals_on lines
+goals_on ((c ∷ line) ∷ lines) = and_then (goal_on (c ∷ line)) (λ goal. option_map (λ goals. goal ∷ goals) (goals_on lines))
 
 -- the goals of a file, where it has at most 65,536 bytes and 1,024 lines and each line is empty or a goal
-abbrev pub goals_in : Form → List ℕ → Option (List Statement)
-goals_in form bytes = if nat_le (length bytes) 65536 && nat_le (length (lines_of bytes)) 1024 then goals_on form (lines_of bytes) else None
+abbrev pub goals_in : List ℕ → Option (List Statement)
+goals_in bytes = if nat_le (length bytes) 65536 && nat_le (length (lines_of bytes)) 1024 then goals_on (lines_of bytes) else None
 
--- what decides the goals of such a file: that a goal has no variables, or that its terms are propositional
-abbrev pub IsDecidable : Form → Goal → Type 0
-IsDecidable Closed goal = goal.binders ≡ []
-IsDecidable Truths goal = IsPropositional goal.hyps goal.concl
-IsDecidable Either goal = (goal.binders ≡ []) ⊎ IsPropositional goal.hyps goal.concl
+-- the goals of a file can be decided: they have no variables, or their terms are propositional
+abbrev pub IsDecidable : Goal → Type 0
+IsDecidable goal = (goal.binders ≡ []) ⊎ IsPropositional goal.hyps goal.concl

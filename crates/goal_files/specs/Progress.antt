@@ -2,13 +2,12 @@
 use Rattle.std.specs.Prelude.{◌≡◌, Bool, true, false, ℕ, List, ◌∷◌, ◌++◌, Option, None, option_map}
 use Rattle.bv_lines.specs.Statement.{Statement}
 use Rattle.goal_files.specs.Files.{goals_on}
-use Rattle.goal_files.specs.declared.file.Form.{Form}
 
 -- goals before others that may not be there
 abbrev pub before : List Statement → Option (List Statement) → Option (List Statement)
 before goals others = option_map (λ more. goals ++ more) others
 
 -- a line's goals were added to the goals, or it isn't in the form
-abbrev pub IsLineRead : Form → List ℕ → List Statement → Bool → List Statement → Type 0
-IsLineRead form line old true new = (lines : List (List ℕ)) → before old (goals_on form (line ∷ lines)) ≡ before new (goals_on form lines)
-IsLineRead form line old false new = (lines : List (List ℕ)) → goals_on form (line ∷ lines) ≡ None
+abbrev pub IsLineRead : List ℕ → List Statement → Bool → List Statement → Type 0
+IsLineRead line old true new = (lines : List (List ℕ)) → before old (goals_on (line ∷ lines)) ≡ before new (goals_on lines)
+IsLineRead line old false new = (lines : List (List ℕ)) → goals_on (line ∷ lines) ≡ None

@@ -15,44 +15,27 @@ pub const MOST_BYTES: usize = 65_536;
 /// The most lines of a file.
 pub const MOST_LINES: usize = 1_024;
 
-/// Which lines a file may have: closed equations, truths over variables of `Bool`, or either.
-#[derive(Clone, Copy, Debug, PartialEq, Eq)]
-pub enum Form {
-    Closed,
-    Truths,
-    Either,
-}
-
-/// The goal of a line; None exactly where the line isn't in the form.
-fn goal_on(alloc: Global, form: Form, line: &[u8]) -> Result<Option<Goal>, AllocError>
-    ensures states { IfOk result (λ goal. option_map statement_of goal ≡ goal_on form line.now) }
-    ensures decidable { IfOk result (λ goal. IfSome goal (IsDecidable form)) }
+/// The goal of a line, which states a closed equation or a truth; None exactly where it states neither.
+fn goal_on(alloc: Global, line: &[u8]) -> Result<Option<Goal>, AllocError>
+    ensures states { IfOk result (λ goal. option_map statement_of goal ≡ goal_on line.now) }
+    ensures decidable { IfOk result (λ goal. IfSome goal IsDecidable) }
 {
-    match form {
-        Form::Closed => closed::goal_in(alloc, line),
-        Form::Truths => truth_lines::goal_in(alloc, line),
-        Form::Either => match closed::goal_in(alloc, line)? {
-            Some(goal) => Ok(Some(goal)),
-            None => truth_lines::goal_in(alloc, line),
-        },
+    match closed::goal_in(alloc, line)? {
+        Some(goal) => Ok(Some(goal)),
+        None => truth_lines::goal_in(alloc, line),
     }
 }
 
 /// Adds the goal of a line, where it has one; false where it isn't in the form.
-fn push_line(
-    alloc: Global,
-    form: Form,
-    goals: &mut Vec<Goal>,
-    line: &[u8],
-) -> Result<bool, AllocError>
-    ensures read { IfOk result (λ ok. IsLineRead form line.now (map statement_of goals.old.items) ok (map statement_of goals.new.items)) }
-    ensures decidable { All (IsDecidable form) goals.old.items → All (IsDecidable form) goals.new.items }
+fn push_line(alloc: Global, goals: &mut Vec<Goal>, line: &[u8]) -> Result<bool, AllocError>
+    ensures read { IfOk result (λ ok. IsLineRead line.now (map statement_of goals.old.items) ok (map statement_of goals.new.items)) }
+    ensures decidable { All IsDecidable goals.old.items → All IsDecidable goals.new.items }
     ensures most { vec_len goals.new ≤ vec_len goals.old + 1 }
 {
     if line.is_empty() {
         return Ok(true);
     }
-    match goal_on(alloc, form, line)? {
+    match goal_on(alloc, line)? {
         Some(goal) => {
             goals.push(goal)?;
             Ok(true)
@@ -63,9 +46,9 @@ fn push_line(
 
 /// The goals of a file in order; None exactly where it isn't in the form.
 /// Errors: want of memory alone. Cost: linear in the file, whose lines are read once, times the number of a line's variables.
-pub fn goals_in(alloc: Global, form: Form, bytes: &[u8]) -> Result<Option<Vec<Goal>>, AllocError>
-    ensures goals { IfOk result (λ goals. option_map (λ v. map statement_of v.items) goals ≡ goals_in form bytes.now) }
-    ensures decidable { IfOk result (λ goals. IfSome goals (λ v. All (IsDecidable form) v.items)) }
+pub fn goals_in(alloc: Global, bytes: &[u8]) -> Result<Option<Vec<Goal>>, AllocError>
+    ensures goals { IfOk result (λ goals. option_map (λ v. map statement_of v.items) goals ≡ goals_in bytes.now) }
+    ensures decidable { IfOk result (λ goals. IfSome goals (λ v. All IsDecidable v.items)) }
     ensures few { IfOk result (λ goals. IfSome goals (λ v. length v.items ≤ 1024)) }
 {
     let mut goals = Vec::new(alloc);
@@ -79,7 +62,7 @@ pub fn goals_in(alloc: Global, form: Form, bytes: &[u8]) -> Result<Option<Vec<Go
             return Ok(None);
         }
         let (line, others) = first_line(rest);
-        if !push_line(alloc, form, &mut goals, line)? {
+        if !push_line(alloc, &mut goals, line)? {
             return Ok(None);
         }
         rest = others;

@@ -1,4 +1,4 @@
-//! Reads files whose goals stand one a line. A command says which lines it takes, so that each command refuses what it can't decide yet.
+//! Reads files whose goals stand one a line, closed equations and truths, in any order.
 #![tactic(auto)]
 
 pub mod file;

@@ -1,19 +1,23 @@
 -- Goals without variables, and the truths that they mean.
-use Rattle.std.proofs.Common.{◌≡◌, ◌⊎◌, inl, inr, Bool, true, false, List, [], ◌∷◌, refl, sym, ap, ◌∙◌, subst, not}
-use Rattle.std.specs.Prelude.{◌↔◌, IsTrue, All, map, IfOk, Result, Ok, Err}
+use Rattle.std.proofs.Common.{◌≡◌, inr, ℕ, Bool, true, false, List, [], ◌∷◌, refl, sym, ap, ◌∙◌, subst, not}
+use Rattle.std.specs.Prelude.{◌↔◌, IsTrue, All, map, IfOk, Option, Result, Ok, Err}
 use Rattle.std.proofs.lemmas.List.Elements.{All-nil}
 use Rattle.bv_expr.specs.declared.ops.Val.{Val}
-use Rattle.bv_expr.specs.declared.ops.Val.TheVariants.{Truth, Vector}
 use Rattle.bv_expr.specs.Term.{Term, truth}
 use Rattle.bv_expr.specs.Meaning.{is_true}
-use Rattle.bv_expr.specs.Goal.{Binders, AreValues, Falsifies, MeansTrue}
+use Rattle.bv_expr.specs.Goal.{Binders, AreValues, Falsifies, IsValid, MeansTrue}
 use Rattle.bv_expr.proofs.Over.{empty_fits}
 use Rattle.bv_expr.specs.Propositional.{is_propositional, IsPropositional}
 use Rattle.bv_lines.specs.Statement.{Statement}
 use Rattle.bvd_report.specs.Report.{Told, Proved, False, Budget, Deep, Large, OutOfMemory, Clauses, Accepted, Refused, NoEmptyClause, AbsentCertificate}
 use Rattle.goal_formula.specs.Satisfying.{IsFalsifiable}
 use Rattle.goal_replies.specs.Decided.{IsItsTruth}
+use Rattle.bv_print.specs.Values.{values_text}
+use Rattle.goal_alone.specs.Alone.{Answer, alone}
+use Rattle.bvd_host.specs.Files.{Files}
 use Rattle.goal_replies.specs.Clauses.{AreClauses, IsClausesTold}
+use Rattle.goal_replies.specs.Solved.{IsAnswered, IsSolved}
+use Rattle.goal_replies.specs.Checked.{IsCheckedAs, IsChecked}
 
 none_sorted : {A B : Type 0} (f : A → B) (values : List A) → map f values ≡ [] → values ≡ []
 none_sorted f [] e = refl
@@ -76,3 +80,62 @@ closed_clauses goal own is e AbsentCertificate are = absurd are
 pub told_then : {T E : Type 0} (P Q : T → Type 0) → ((t : T) → P t → Q t) → (r : Result T E) → IfOk r P → IfOk r Q
 told_then P Q f (Ok t) h = f t h
 told_then P Q f (Err e) h = h
+
+-- a goal is valid where the truth that it means is
+pub valid_of_closed : (goal own : Statement) → IsItsTruth goal own.hyps own.concl → own.binders ≡ [] → IsValid own.binders own.hyps own.concl → IsValid goal.binders goal.hyps goal.concl
+valid_of_closed goal own is e valid = λ values fit falsify.
+    let same = truth_of_closed goal.binders goal.hyps goal.concl own.binders own.hyps own.concl is.holds is.closed e is.no_hyps is.is_truth is.meant in
+    let f = same.1 (values, fit, falsify) in
+    valid f.0 f.1 f.2
+
+-- values that falsify the truth that a goal means falsify the goal
+falsifies_closed : (goal own : Statement) → IsItsTruth goal own.hyps own.concl → own.binders ≡ [] → (values : List Val) → AreValues own.binders values → Falsifies own.hyps own.concl values
+    → Falsifies goal.hyps goal.concl values
+falsifies_closed goal own is e values fit falsify =
+    let same = truth_of_closed goal.binders goal.hyps goal.concl own.binders own.hyps own.concl is.holds is.closed e is.no_hyps is.is_truth is.meant in
+    let none : values ≡ [] = none_sorted _ values (fit.of_the_sorts ∙ ap (map (λ b. b.1)) e) in
+    subst (Falsifies goal.hyps goal.concl) (sym none) (only_empty goal.binders goal.hyps goal.concl is.closed (same.0 (values, fit, falsify)))
+
+-- what is told of the truth that a goal means is told of the goal
+pub closed_answered : (steps : ℕ) (goal own : Statement) → IsItsTruth goal own.hyps own.concl → own.binders ≡ [] → (told : Told) → IsAnswered steps own own.hyps own.concl told → IsSolved steps goal told
+closed_answered steps goal own is e (Proved text) are =
+    let same : own.binders ≡ goal.binders = e ∙ sym is.closed in
+    (own.hyps, own.concl, inr is, (subst (λ b. alone b own.hyps own.concl steps ≡ Answer.Proved text) same are.0, are.1, valid_of_closed goal own is e are.2))
+closed_answered steps goal own is e (False text) are =
+    let same : own.binders ≡ goal.binders = e ∙ sym is.closed in (
+      own.hyps,
+      own.concl,
+      inr is,
+      (
+        are.0,
+        subst (λ b. alone b own.hyps own.concl steps ≡ Answer.False are.0) same are.1,
+        subst (λ b. text ≡ values_text b are.0) same are.2,
+        subst (λ b. AreValues b are.0) same are.3,
+        falsifies_closed goal own is e are.0 are.3 are.4,
+      ),
+    )
+closed_answered steps goal own is e (Budget spent) are =
+    (own.hyps, own.concl, inr is, subst (λ b. alone b own.hyps own.concl steps ≡ Answer.Budget spent) (e ∙ sym is.closed) are)
+closed_answered steps goal own is e Deep are = (own.hyps, own.concl, inr is, subst (λ b. alone b own.hyps own.concl steps ≡ Answer.Deep) (e ∙ sym is.closed) are)
+closed_answered steps goal own is e Large are = (own.hyps, own.concl, inr is, subst (λ b. alone b own.hyps own.concl steps ≡ Answer.Large) (e ∙ sym is.closed) are)
+closed_answered steps goal own is e OutOfMemory are = (own.hyps, own.concl, inr is, tt)
+closed_answered steps goal own is e (Clauses text) are = absurd are
+closed_answered steps goal own is e Accepted are = absurd are
+closed_answered steps goal own is e (Refused line fault) are = absurd are
+closed_answered steps goal own is e NoEmptyClause are = absurd are
+closed_answered steps goal own is e AbsentCertificate are = absurd are
+
+-- the same of its certificate
+pub closed_checked : (files : Option Files) (missing : Type 0) (name : List ℕ) (goal own : Statement) → IsItsTruth goal own.hyps own.concl → own.binders ≡ [] → (told : Told)
+    → IsCheckedAs files missing name own own.hyps own.concl told → IsChecked files missing name goal told
+closed_checked files missing name goal own is e Accepted are = (own.hyps, own.concl, inr is, (are.0, are.1, valid_of_closed goal own is e are.2))
+closed_checked files missing name goal own is e Deep are = (own.hyps, own.concl, inr is, are)
+closed_checked files missing name goal own is e Large are = (own.hyps, own.concl, inr is, are)
+closed_checked files missing name goal own is e (Refused line fault) are = (own.hyps, own.concl, inr is, are)
+closed_checked files missing name goal own is e NoEmptyClause are = (own.hyps, own.concl, inr is, are)
+closed_checked files missing name goal own is e AbsentCertificate are = (own.hyps, own.concl, inr is, are)
+closed_checked files missing name goal own is e OutOfMemory are = (own.hyps, own.concl, inr is, are)
+closed_checked files missing name goal own is e (Proved text) are = absurd are
+closed_checked files missing name goal own is e (False values) are = absurd are
+closed_checked files missing name goal own is e (Budget spent) are = absurd are
+closed_checked files missing name goal own is e (Clauses text) are = absurd are

@@ -1,9 +1,8 @@
 -- What is told of a goal by its clauses.
-use Rattle.std.specs.Prelude.{◌≡◌, ◌↔◌, ℕ, List}
+use Rattle.std.specs.Prelude.{◌≡◌, ◌↔◌, List}
 use Rattle.bv_expr.specs.Term.{Term}
-use Rattle.bv_expr.specs.Goal.{Binders}
 use Rattle.sat_form.specs.Dimacs.{dimacs_text}
-use Rattle.goal_formula.specs.Ends.{End, Made, TooDeep, TooMany}
+use Rattle.goal_formula.specs.Ends.{Made, TooDeep, TooMany}
 use Rattle.goal_formula.specs.Formula.{goal_clauses, goal_end, goal_variables}
 use Rattle.bv_lines.specs.Statement.{Statement}
 use Rattle.bvd_report.specs.Report.{Told, Proved, False, Budget, Deep, Large, OutOfMemory, Clauses, Accepted, Refused, NoEmptyClause, AbsentCertificate}

@@ -1,3 +1,6 @@
 pub mod Decided
 pub mod Clauses
-pub mod Closed
+pub mod Solved
+pub mod Checked
+pub mod Outcome
+pub mod Laws

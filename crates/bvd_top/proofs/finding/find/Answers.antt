@@ -9,4 +9,4 @@ pub returns-in-TooLong-clause-stated : goal.returns-in-TooLong-clause-stated
 returns-in-TooLong-clause-stated g c =
     let missing = Rose (g.K.Keeper.missing c.args.keeper.now) (g.K.Keeper.missing c.read_file.new.keeper) in
     let Q : FileRead → Type 0 = λ r. IsRead 65536 (g.K.Keeper.files c.args.keeper.now) missing c.args.name.now r in
-    unread c.args.form (g.K.Keeper.files c.args.keeper.now) missing c.args.name.now (subst Q c.in-TooLong.is c.in_ok-read_file.ensures.read)
+    unread (g.K.Keeper.files c.args.keeper.now) missing c.args.name.now (subst Q c.in-TooLong.is c.in_ok-read_file.ensures.read)

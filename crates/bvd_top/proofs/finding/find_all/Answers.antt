@@ -15,10 +15,10 @@ names-preserved g c =
     let d : Bor (List ℕ) = record { ref_ptr = (0, 0); now = [] } in
     let read : Read = record { path = get_or c.args.names.now c.names.name-index d; stated = c.in_ok-stated.stated } in
     let shown : reads_shown c.keep.new.items.items ≡ reads_shown c.names.reads.items ++ read_shown read ∷ [] = ap reads_shown c.in_ok-keep.ensures ∙ map-append read_shown c.names.reads.items (read ∷ []) in
-    let P : Read → Type 0 = λ r. AreDecidable c.args.form r.stated in
+    let P : Read → Type 0 = λ r. AreDecidable r.stated in
     let S : Read → Type 0 = λ r. IsSmall (stated_shown r.stated) in
     record {
-      read = read_next c.args.form (g.K.Keeper.files c.args.keeper.now) (g.K.Keeper.files c.names.keeper) (g.K.Keeper.missing c.args.keeper.now) (g.K.Keeper.missing c.names.keeper) (g.K.Keeper.missing c.find.new.keeper)
+      read = read_next (g.K.Keeper.files c.args.keeper.now) (g.K.Keeper.files c.names.keeper) (g.K.Keeper.missing c.args.keeper.now) (g.K.Keeper.missing c.names.keeper) (g.K.Keeper.missing c.find.new.keeper)
           (map (λ n. n.now) (take c.names.name-index c.args.names.now)) (map (λ n. n.now) (take (c.names.name-index + 1) c.args.names.now)) (reads_shown c.names.reads.items) (reads_shown c.keep.new.items.items) (read_shown read)
           c.names.invariant.read c.names.invariant.files c.names.invariant.missing c.in_ok-stated.ensures.missing c.in_ok-stated.ensures.stated
           (names_next (λ n. n.now) c.args.names.now c.names.name-index d c.names-test.true) shown;

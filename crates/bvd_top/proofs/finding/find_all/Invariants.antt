@@ -8,10 +8,10 @@ use Rattle.bvd_top.proofs.finding.find_all.Given as goal
 
 abbrev pub invariant-names : goal.invariant-names
 invariant-names g l = record {
-  read : AreRead l.form (g.K.Keeper.files l.initial.keeper) (Rose (g.K.Keeper.missing l.initial.keeper) (g.K.Keeper.missing l.keeper)) (map (λ n. n.now) (take l.name-index l.names)) (reads_shown l.reads.items);
+  read : AreRead (g.K.Keeper.files l.initial.keeper) (Rose (g.K.Keeper.missing l.initial.keeper) (g.K.Keeper.missing l.keeper)) (map (λ n. n.now) (take l.name-index l.names)) (reads_shown l.reads.items);
   count : length l.reads.items ≡ l.name-index;
   small : All (λ r. IsSmall (stated_shown r.stated)) l.reads.items;
-  decidable : All (λ r. AreDecidable l.form r.stated) l.reads.items;
+  decidable : All (λ r. AreDecidable r.stated) l.reads.items;
   files : g.K.Keeper.files l.keeper ≡ g.K.Keeper.files l.initial.keeper;
   faults : g.K.Keeper.faults l.initial.keeper ≤ g.K.Keeper.faults l.keeper;
   missing : g.K.Keeper.missing l.initial.keeper ≤ g.K.Keeper.missing l.keeper;

@@ -1,10 +1,8 @@
 use Rattle.std.proofs.Common.{List, map, ℕ, subst}
 use Rattle.bvd_host.specs.Causes.{Rose}
-use Rattle.bvd_words.specs.Asked.{command_shown, request_shown}
+use Rattle.bvd_words.specs.Asked.{request_shown}
 use Rattle.bvd_report.specs.Shown.{parts_shown}
-use Rattle.goal_files.specs.declared.file.Form.{Form}
 use Rattle.bvd_top.specs.Stated.{AreRead}
-use Rattle.bvd_top.specs.Told.{form_of}
 use Rattle.bvd_top.specs.Parts.{AreFound, ArePartsOf}
 use Rattle.bvd_top.specs.Shown.{reads_shown}
 use Rattle.bvd_top.proofs.Endings.{ok_then, parts_found}
@@ -19,8 +17,7 @@ returns-clause-found g c =
     let m1 = g.K.Keeper.missing c.find_all.new.keeper in
     let m2 = g.K.Keeper.missing c.reply_all.new.keeper in
     let reads = reads_shown c.in_ok-reads.reads.items in
-    let named = subst (λ l. AreRead c.form_of.result files (Rose m0 m1) (map (λ n. n.now) l) reads) c.deref.ensures.value c.in_ok-reads.ensures.read in
-    let read = subst (λ f. AreRead f files (Rose m0 m1) request.files reads) c.form_of.ensures named in
+    let read = subst (λ l. AreRead files (Rose m0 m1) (map (λ n. n.now) l) reads) c.deref.ensures.value c.in_ok-reads.ensures.read in
     ok_then (λ parts. AreFound request mid (Rose m1 m2) 1 reads (parts_shown parts.items)) (λ parts. ArePartsOf files (Rose m0 m2) request (parts_shown parts.items))
     (λ parts found. parts_found request files mid m0 m1 m2 reads (parts_shown parts.items) read c.in_ok-reads.ensures.files c.in_ok-reads.ensures.missing c.reply_all.ensures.missing found)
     c.reply_all.result c.reply_all.ensures.found

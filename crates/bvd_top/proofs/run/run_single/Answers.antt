@@ -1,5 +1,5 @@
 use Rattle.std.proofs.Common.{map, string_bytes}
-use Rattle.bvd_top.specs.Words.{request_of}
+use Rattle.bvd_words.specs.Requests.{request_of}
 use Rattle.bvd_top.proofs.Done.{done, device, words}
 use Rattle.bvd_top.proofs.run.run_single.Goals as goal
 

@@ -6,23 +6,15 @@ use Rattle.truth_lines.specs.Truths as truths
 use Rattle.goal_files.specs.Files.{goal_on}
 use Rattle.goal_files.proofs.file.goal_on.Goals as goal
 
-pub returns-in-Closed-clause-states : goal.returns-in-Closed-clause-states
-unfolding goal_on
-returns-in-Closed-clause-states c = rw c.in-Closed.is c.goal_in.ensures.states
-
-pub returns-in-Truths-clause-states : goal.returns-in-Truths-clause-states
-unfolding goal_on
-returns-in-Truths-clause-states c = rw c.in-Truths.is c.goal_in-in-Truths.ensures.states
-
 pub returns-in-Some-clause-states : goal.returns-in-Some-clause-states
 unfolding goal_on
 returns-in-Some-clause-states c =
-    let read = rw c.in-Some.is at c.in_ok-goal-in-Either.ensures.states in
-    rw c.in-Either.is (ap (λ o. or_else o (truths.goal_in c.args.line.now)) read)
+    let read = rw c.in-Some.is at c.in_ok-goal.ensures.states in
+    ap (λ o. or_else o (truths.goal_in c.args.line.now)) read
 
 pub returns-in-None-clause-states : goal.returns-in-None-clause-states
 unfolding goal_on
 returns-in-None-clause-states c =
-    let read = rw c.in-None.is at c.in_ok-goal-in-Either.ensures.states in
+    let read = rw c.in-None.is at c.in_ok-goal.ensures.states in
     let P : Option Statement → Type 0 = λ o. IfOk c.goal_in-in-None.result (λ goal. option_map statement_of goal ≡ or_else o (truths.goal_in c.args.line.now)) in
-    rw c.in-Either.is (subst P read c.goal_in-in-None.ensures.states)
+    subst P read c.goal_in-in-None.ensures.states

@@ -9,9 +9,9 @@ abbrev pub invariant-lines : goal.invariant-lines
 invariant-lines l = record {
   count : l.count + length (lines_of l.rest) ≡ length (lines_of l.bytes);
   most : l.count ≤ 1024;
-  decidable : All (λ g. IsDecidable l.form g) l.goals.items;
+  decidable : All IsDecidable l.goals.items;
   few : length l.goals.items ≤ l.count;
-  goals : before (map statement_of l.goals.items) (goals_on l.form (lines_of l.rest)) ≡ goals_on l.form (lines_of l.bytes);
+  goals : before (map statement_of l.goals.items) (goals_on (lines_of l.rest)) ≡ goals_on (lines_of l.bytes);
 }
 
 abbrev pub decreases-lines : goal.decreases-lines

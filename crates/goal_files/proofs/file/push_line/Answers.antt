@@ -7,6 +7,6 @@ use Rattle.goal_files.proofs.file.push_line.Goals as goal
 
 pub returns-in_ok-push-in-Some-clause-decidable : goal.returns-in_ok-push-in-Some-clause-decidable
 returns-in_ok-push-in-Some-clause-decidable c = λ all.
-    let P : Goal → Type 0 = λ g. IsDecidable c.args.form g in
+    let P : Goal → Type 0 = λ g. IsDecidable g in
     let Q : Option Goal → Type 0 = λ o. IfSome o P in
     subst (All P) (sym c.in_ok-push-in-Some.ensures.items) (All-push P c.args.goals.now.items c.in-Some.goal all (subst Q c.in-Some.is c.in_ok-goal.ensures.decidable))
