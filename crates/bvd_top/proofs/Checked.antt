@@ -1,5 +1,5 @@
 -- What a check tells, while the count of missing files rises.
-use Rattle.std.proofs.Common.{◌≡◌, ℕ, List, Some, None}
+use Rattle.std.proofs.Common.{ℕ, List, Some, None}
 use Rattle.std.specs.Prelude.{Option}
 use Rattle.bvd_host.specs.Files.{Files}
 use Rattle.bv_expr.specs.Term.{Term}

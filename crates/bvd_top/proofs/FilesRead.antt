@@ -3,9 +3,8 @@ use Rattle.std.proofs.Common.{◌≡◌, ℕ, ◌+◌, ◌<◌, ◌≤◌, List,
 use Rattle.std.specs.Prelude.{Option, replicate}
 use Rattle.std.proofs.lemmas.Bool.Decides.{nat_tests}
 use Rattle.std.proofs.lemmas.List.{length-replicate}
-use Rattle.bvd_host.specs.Files.{Files, file_at}
+use Rattle.bvd_host.specs.Files.{Files}
 use Rattle.bvd_host.specs.Causes.{Rose}
-use Rattle.bv_lines.specs.Statement.{Statement}
 use Rattle.goal_files.specs.Files.{goals_in}
 use Rattle.bvd_top.specs.declared.reading.FileRead.TheVariants.{TooLong}
 use Rattle.bvd_top.specs.Reading.{IsRead}

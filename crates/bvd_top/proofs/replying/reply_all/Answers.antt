@@ -1,8 +1,8 @@
-use Rattle.std.proofs.Common.{◌≡◌, ◌∙◌, ◌+◌, ◌*◌, ◌∷◌, ◌++◌, [], map, arith, ap, length, length-append, refl}
+use Rattle.std.proofs.Common.{◌≡◌, ◌∙◌, ◌+◌, ◌∷◌, ◌++◌, [], arith, ap, length, length-append, refl}
 use Rattle.std.proofs.lemmas.List.{map-append, length-map}
 use Rattle.bvd_words.specs.Asked.{request_shown}
 use Rattle.bvd_report.specs.declared.told.Part.{Part}
-use Rattle.bvd_report.specs.Report.{all_goals, goals_of}
+use Rattle.bvd_report.specs.Report.{goals_of}
 use Rattle.bvd_report.specs.Shown.{found_shown, line_shown, part_shown, parts_shown}
 use Rattle.bvd_top.specs.Shown.{read_shown, reads_shown}
 use Rattle.bvd_top.proofs.GoalsTold.{found_next, goals_more}

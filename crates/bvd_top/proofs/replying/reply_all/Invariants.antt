@@ -1,4 +1,4 @@
-use Rattle.std.proofs.Common.{◌≡◌, ◌≤◌, ◌+◌, ◌*◌, map, length}
+use Rattle.std.proofs.Common.{◌≡◌, ◌≤◌, ◌+◌, ◌*◌, length}
 use Rattle.bvd_host.specs.Causes.{Rose}
 use Rattle.bvd_words.specs.Asked.{request_shown}
 use Rattle.bvd_report.specs.Report.{all_goals}

@@ -1,4 +1,4 @@
-use Rattle.std.proofs.Common.{Err, inl, inr, ◌∙◌, refl, ap, subst, map}
+use Rattle.std.proofs.Common.{Err, inl, inr, ◌∙◌, refl, ap, subst}
 use Rattle.std.specs.Prelude.{option_map}
 use Rattle.std.proofs.lemmas.Result.{err_from_is_err_and}
 use Rattle.bvd_host.specs.Causes.{Rose}

@@ -1,4 +1,4 @@
-use Rattle.std.proofs.Common.{List, map, ℕ, subst}
+use Rattle.std.proofs.Common.{map, subst}
 use Rattle.bvd_host.specs.Causes.{Rose}
 use Rattle.bvd_words.specs.Asked.{request_shown}
 use Rattle.bvd_report.specs.Shown.{parts_shown}
