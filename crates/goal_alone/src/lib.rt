@@ -11,4 +11,4 @@ mod solve;
 mod tests;
 
 pub use goal::alone;
-pub use reply::Reply;
+pub use reply::{Outcome, Reply};

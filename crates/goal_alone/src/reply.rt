@@ -18,3 +18,15 @@ pub enum Reply {
     /// Want of memory.
     Memory,
 }
+
+/// What becomes of a goal among others: the reply that it has alone, or why it has none. A run on one thread, as `alone`,
+/// leaves every goal replied to.
+#[derive(Debug, Drop)]
+pub enum Outcome {
+    /// Its own reply.
+    Replied(Reply),
+    /// A shared table of gates had no room for its circuit.
+    Full,
+    /// It was cancelled because the goal of this number, counted from 0, is false.
+    Cancelled(u32),
+}
