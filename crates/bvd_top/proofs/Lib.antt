@@ -7,3 +7,6 @@ pub mod FilesRead
 pub mod GoalsTold
 pub mod Endings
 pub mod Done
+pub mod CertificatesKept
+pub mod GoalsCounted
+pub mod Confirmed

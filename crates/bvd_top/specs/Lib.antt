@@ -7,3 +7,4 @@ pub mod Storing
 pub mod Shown
 pub mod Decided
 pub mod Ending
+pub mod Laws

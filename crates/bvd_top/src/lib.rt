@@ -3,6 +3,7 @@
 
 pub mod finding;
 mod keeping;
+pub mod laws;
 pub mod reading;
 pub mod replying;
 pub mod run;
