@@ -1,9 +1,6 @@
 -- What the code's values stand for.
 use Rattle.std.specs.Prelude.{List, map, string_bytes}
-use Rattle.lrat_lines.specs.Judge as judge
-use Rattle.lrat_lines.specs.Replay as replay
-use Rattle.bvd_report.specs.declared.told.Fault.{Fault}
-use Rattle.bvd_report.specs.declared.told.Fault.TheVariants as fault
+use Rattle.lrat_replay.specs.Shown.{fault_shown}
 use Rattle.bvd_report.specs.declared.told.Told.{Told}
 use Rattle.bvd_report.specs.declared.told.Told.TheVariants as told
 use Rattle.bvd_report.specs.declared.told.Line.{Line}
@@ -13,15 +10,6 @@ use Rattle.bvd_report.specs.declared.told.Part.{Part}
 use Rattle.bvd_report.specs.declared.summary.Verdict.{Verdict}
 use Rattle.bvd_report.specs.declared.summary.Verdict.TheVariants as verdict
 use Rattle.bvd_report.specs.Report as spec
-
-abbrev pub fault_shown : Fault → replay.Fault
-fault_shown fault.BadLine = replay.Fault.Malformed
-fault_shown fault.IdInUse = replay.Fault.Because judge.Cause.IdInUse
-fault_shown (fault.NoClause id) = replay.Fault.Because (judge.Cause.NoClause id)
-fault_shown (fault.NotUnit id) = replay.Fault.Because (judge.Cause.NotUnit id)
-fault_shown fault.NoConflict = replay.Fault.Because judge.Cause.NoConflict
-fault_shown (fault.MissingGroup id) = replay.Fault.Because (judge.Cause.MissingGroup id)
-fault_shown (fault.StrangeGroup id) = replay.Fault.Because (judge.Cause.StrangeGroup id)
 
 abbrev pub told_shown : Told → spec.Told
 told_shown (told.Proved text) = spec.Told.Proved text.items

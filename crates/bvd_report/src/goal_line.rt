@@ -3,10 +3,13 @@ ghost use Rattle.std.specs.Prelude.{◌≡◌, ◌++◌, IfOk, OnOk, string_byte
 ghost use Rattle.bvd_words.specs.Asked.{command_shown};
 ghost use Rattle.bvd_report.specs.Report as spec;
 ghost use Rattle.bvd_report.specs.Report.{certificate_name, fault_text, refusal_text, told_text, clauses_text, goal_line};
-ghost use Rattle.bvd_report.specs.Shown.{fault_shown, told_shown, line_shown};
+ghost use Rattle.lrat_replay.specs.Shown.{fault_shown};
+ghost use Rattle.bvd_report.specs.Shown.{told_shown, line_shown};
 
-use crate::told::{Fault, Line, Told};
+use crate::told::{Line, Told};
 use bvd_words::request::Command;
+use lrat_judge::Cause;
+use lrat_replay::Fault;
 use std::alloc::{AllocError, Global};
 use std::io;
 use std::io::Write;
@@ -24,13 +27,13 @@ fn push_fault(out: &mut Vec<u8>, fault: Fault) -> io::Result<()>
     ensures { OnOk result (out.new.items ≡ out.old.items ++ fault_text (fault_shown fault)) }
 {
     match fault {
-        Fault::BadLine => write!(out, "bad line"),
-        Fault::IdInUse => write!(out, "id in use"),
-        Fault::NoClause(id) => write!(out, "no clause {id}"),
-        Fault::NotUnit(id) => write!(out, "not unit {id}"),
-        Fault::NoConflict => write!(out, "no conflict"),
-        Fault::MissingGroup(id) => write!(out, "missing group {id}"),
-        Fault::StrangeGroup(id) => write!(out, "strange group {id}"),
+        Fault::Malformed => write!(out, "bad line"),
+        Fault::Because(Cause::IdInUse) => write!(out, "id in use"),
+        Fault::Because(Cause::NoClause(id)) => write!(out, "no clause {id}"),
+        Fault::Because(Cause::NotUnit(id)) => write!(out, "not unit {id}"),
+        Fault::Because(Cause::NoConflict) => write!(out, "no conflict"),
+        Fault::Because(Cause::MissingGroup(id)) => write!(out, "missing group {id}"),
+        Fault::Because(Cause::StrangeGroup(id)) => write!(out, "strange group {id}"),
     }
 }
 

@@ -2,8 +2,10 @@
 use crate::goal_line::certificate_name;
 use crate::report::report;
 use crate::status::status_of;
-use crate::told::{Fault, Found, Line, Part, Told};
+use crate::told::{Found, Line, Part, Told};
 use bvd_words::request::{Command, Request};
+use lrat_judge::Cause;
+use lrat_replay::Fault;
 use std::alloc::{AllocError, Global};
 
 /// Adds a goal.
@@ -105,13 +107,13 @@ fn answers_of_checks(rt: HostRuntime) -> Result<(), AllocError> {
     let mut more = Vec::new(alloc);
     add(alloc, &mut goals, "f", Told::Accepted)?;
     for (line, fault) in [
-        (1, Fault::BadLine),
-        (2, Fault::IdInUse),
-        (3, Fault::NoClause(30)),
-        (4, Fault::NotUnit(40)),
-        (5, Fault::NoConflict),
-        (6, Fault::MissingGroup(60)),
-        (7, Fault::StrangeGroup(70)),
+        (1, Fault::Malformed),
+        (2, Fault::Because(Cause::IdInUse)),
+        (3, Fault::Because(Cause::NoClause(30))),
+        (4, Fault::Because(Cause::NotUnit(40))),
+        (5, Fault::Because(Cause::NoConflict)),
+        (6, Fault::Because(Cause::MissingGroup(60))),
+        (7, Fault::Because(Cause::StrangeGroup(70))),
     ] {
         add(alloc, &mut goals, "g", Told::Refused(line, fault))?;
     }

@@ -3,24 +3,7 @@ ghost use Rattle.std.specs.Prelude.{◌≡◌};
 ghost use Rattle.bvd_report.specs.Report.{goals_of};
 ghost use Rattle.bvd_report.specs.Shown.{lines_shown, found_shown};
 
-/// Why a line of a certificate is refused. The numbers are clauses' ids.
-#[derive(Clone, Copy, Debug, PartialEq, Eq)]
-pub enum Fault {
-    /// It isn't a line.
-    BadLine,
-    /// Its id has a clause already.
-    IdInUse,
-    /// A hint names a clause that isn't there.
-    NoClause(u64),
-    /// A hint's clause is neither false nor unit.
-    NotUnit(u64),
-    /// The hints come to no conflict.
-    NoConflict,
-    /// A clause with the pivot's negation has no group of hints.
-    MissingGroup(u64),
-    /// A group of hints is that of no clause with the pivot's negation.
-    StrangeGroup(u64),
-}
+use lrat_replay::Fault;
 
 /// What is told of a goal.
 #[derive(Drop)]

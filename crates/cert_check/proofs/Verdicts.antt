@@ -11,7 +11,7 @@ use Rattle.lrat_lines.specs.Replay.Fault.{Malformed, Because}
 use Rattle.lrat_replay.specs.Answer.{refusal, IsAnswerOn, IsAnswer, Answers, IsFromText}
 use Rattle.lrat_replay.specs.declared.stop.ReplayStop.{ReplayStop}
 use Rattle.lrat_replay.specs.declared.stop.ReplayStop.TheVariants.{Bad, IdInUse, NoClause, NotUnit, NoConflict, MissingGroup, StrangeGroup, NoEmpty, TooLong, ReadFault, Memory}
-use Rattle.cert_check.specs.Shown.{fault_shown}
+use Rattle.lrat_replay.specs.Shown.{fault_shown}
 use Rattle.cert_check.specs.Checked.{IsCertificate, IsReplayed, IsChecked}
 use Rattle.cert_check.specs.Told.{IsTold}
 use Rattle.cert_check.specs.declared.checked.DeviceFailed.{DeviceFailed}

@@ -3,7 +3,7 @@ use Rattle.std.specs.Prelude.{◌≡◌, ℕ, ◌-◌, ◌^◌, List, Option, No
 use Rattle.sat_form.specs.Literals.{Literal}
 use Rattle.bvd_host.specs.Files.{Files, file_at}
 use Rattle.lrat_lines.specs.Replay.{Verdict, TextComesTo}
-use Rattle.cert_check.specs.Shown.{fault_shown}
+use Rattle.lrat_replay.specs.Shown.{fault_shown}
 use Rattle.cert_check.specs.declared.checked.Checked.{Checked}
 use Rattle.cert_check.specs.declared.checked.Checked.TheVariants.{Accepted, Refused, NoEmptyClause, Absent, OutOfMemory}
 

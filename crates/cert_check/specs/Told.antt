@@ -3,7 +3,7 @@ use Rattle.std.specs.Prelude.{◌≡◌, Result, Ok, Err}
 use Rattle.lrat_replay.specs.Answer.{refusal, IsFromText}
 use Rattle.lrat_replay.specs.declared.stop.ReplayStop.{ReplayStop}
 use Rattle.lrat_replay.specs.declared.stop.ReplayStop.TheVariants.{NoEmpty}
-use Rattle.cert_check.specs.Shown.{fault_shown}
+use Rattle.lrat_replay.specs.Shown.{fault_shown}
 use Rattle.cert_check.specs.declared.checked.Checked.{Checked}
 use Rattle.cert_check.specs.declared.checked.Checked.TheVariants.{Accepted, Refused, NoEmptyClause, Absent, OutOfMemory}
 

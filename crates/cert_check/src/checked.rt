@@ -1,6 +1,7 @@
 //! What a stored certificate comes to, as small values: callers keep them, compare them, and print them in words of their
 //! own.
 
+use lrat_replay::Fault;
 use thiserror::Error;
 
 /// What a stored certificate comes to.
@@ -16,25 +17,6 @@ pub enum Checked {
     Absent,
     /// There was no memory.
     OutOfMemory,
-}
-
-/// Why a line doesn't check. The numbers are clauses' ids.
-#[derive(Clone, Copy, Debug, PartialEq, Eq)]
-pub enum Fault {
-    /// The line isn't one of the grammar.
-    BadLine,
-    /// It adds a clause under an id that is in use.
-    IdInUse,
-    /// It names a clause that isn't there.
-    NoClause(u64),
-    /// A hint's clause is neither unit nor wholly false.
-    NotUnit(u64),
-    /// The hints end without a conflict.
-    NoConflict,
-    /// A clause with the negated pivot has no group.
-    MissingGroup(u64),
-    /// A group's clause lacks the negated pivot.
-    StrangeGroup(u64),
 }
 
 /// The keeper failed: its count of faults rose in this call.

@@ -8,12 +8,13 @@ ghost use Rattle.lrat_replay.specs.Answer.{Answers, IsFromText};
 ghost use Rattle.cert_check.specs.Checked.{IsCertificate, IsChecked};
 ghost use Rattle.cert_check.specs.Told.{IsTold};
 
-use crate::checked::{Checked, DeviceFailed, Fault};
+use crate::checked::{Checked, DeviceFailed};
 use bvd_host::keeper::Keeper;
 use bvd_host::kept_file::KeptFile;
 use cert_store::fetching::find;
 use cert_store::stop::StoreStop;
-use lrat_replay::{ReplayStop, replay};
+use lrat_judge::Cause;
+use lrat_replay::{Fault, ReplayStop, replay};
 use sat_form::Cnf;
 use std::alloc::Global;
 
@@ -38,6 +39,13 @@ fn replay_kept<K: Keeper>(
     replay(alloc, cnf, &mut file, u64::MAX)
 }
 
+/// A line that doesn't check, for this cause.
+fn refused(line: u64, cause: Cause) -> Checked
+    ensures { result ≡ Checked.Refused line (Fault.Because cause) }
+{
+    Checked::Refused(line, Fault::Because(cause))
+}
+
 /// Tells how a replay ended.
 fn told(replayed: Result<(), ReplayStop>) -> Result<Checked, DeviceFailed>
     requires { IsErrOf replayed ReplayStop.TooLong → ⊥ }
@@ -46,19 +54,13 @@ fn told(replayed: Result<(), ReplayStop>) -> Result<Checked, DeviceFailed>
 {
     match replayed {
         Ok(()) => Ok(Checked::Accepted),
-        Err(ReplayStop::Bad(line)) => Ok(Checked::Refused(line, Fault::BadLine)),
-        Err(ReplayStop::IdInUse(line)) => Ok(Checked::Refused(line, Fault::IdInUse)),
-        Err(ReplayStop::NoClause(line, id)) => Ok(Checked::Refused(line, Fault::NoClause(id))),
-        Err(ReplayStop::NotUnit(line, id)) => Ok(Checked::Refused(line, Fault::NotUnit(id))),
-        Err(ReplayStop::NoConflict(line)) => Ok(Checked::Refused(line, Fault::NoConflict)),
-        Err(ReplayStop::MissingGroup(line, id)) => Ok(Checked::Refused(
-            line,
-            Fault::MissingGroup(id),
-        )),
-        Err(ReplayStop::StrangeGroup(line, id)) => Ok(Checked::Refused(
-            line,
-            Fault::StrangeGroup(id),
-        )),
+        Err(ReplayStop::Bad(line)) => Ok(Checked::Refused(line, Fault::Malformed)),
+        Err(ReplayStop::IdInUse(line)) => Ok(refused(line, Cause::IdInUse)),
+        Err(ReplayStop::NoClause(line, id)) => Ok(refused(line, Cause::NoClause(id))),
+        Err(ReplayStop::NotUnit(line, id)) => Ok(refused(line, Cause::NotUnit(id))),
+        Err(ReplayStop::NoConflict(line)) => Ok(refused(line, Cause::NoConflict)),
+        Err(ReplayStop::MissingGroup(line, id)) => Ok(refused(line, Cause::MissingGroup(id))),
+        Err(ReplayStop::StrangeGroup(line, id)) => Ok(refused(line, Cause::StrangeGroup(id))),
         Err(ReplayStop::NoEmpty) => Ok(Checked::NoEmptyClause),
         Err(ReplayStop::TooLong) => unreachable!(),
         Err(ReplayStop::ReadFault) => Err(DeviceFailed),

@@ -6,7 +6,7 @@
 mod checked;
 mod checking;
 
-pub use checked::{Checked, DeviceFailed, Fault};
+pub use checked::{Checked, DeviceFailed};
 pub use checking::check;
 
 #[cfg(test)]

@@ -1,7 +1,9 @@
 //! Worked certificates, each outcome once, with ample memory; and a keeper that fails in the middle.
 
-use crate::{Checked, Fault, check};
+use crate::{Checked, check};
 use bvd_host::map_keeper::MapKeeper;
+use lrat_judge::Cause;
+use lrat_replay::Fault;
 use sat_form::{Clauses, Cnf, Lit};
 use std::alloc::{AllocError, Global};
 use std::collections::BTreeMap;
@@ -37,24 +39,36 @@ fn each_outcome_is_told(rt: HostRuntime) -> Result<(), Fail> {
             "c a comment\n4 2 0 1 2 0\n5 0 1 2 0",
             Checked::Accepted,
         ),
-        ("a", "4 0 1 2\n", Checked::Refused(1, Fault::BadLine)),
-        ("a", "c\n3 0 1 2 0\n", Checked::Refused(2, Fault::IdInUse)),
+        ("a", "4 0 1 2\n", Checked::Refused(1, Fault::Malformed)),
+        (
+            "a",
+            "c\n3 0 1 2 0\n",
+            Checked::Refused(2, Fault::Because(Cause::IdInUse)),
+        ),
         (
             "a",
             "c\nc\n4 0 1 7 0\n",
-            Checked::Refused(3, Fault::NoClause(7)),
+            Checked::Refused(3, Fault::Because(Cause::NoClause(7))),
         ),
-        ("a", "4 0 3 0\n", Checked::Refused(1, Fault::NotUnit(3))),
-        ("a", "4 0 1 0\n", Checked::Refused(1, Fault::NoConflict)),
+        (
+            "a",
+            "4 0 3 0\n",
+            Checked::Refused(1, Fault::Because(Cause::NotUnit(3))),
+        ),
+        (
+            "a",
+            "4 0 1 0\n",
+            Checked::Refused(1, Fault::Because(Cause::NoConflict)),
+        ),
         (
             "a",
             "4 -2 0 0\n",
-            Checked::Refused(1, Fault::MissingGroup(3)),
+            Checked::Refused(1, Fault::Because(Cause::MissingGroup(3))),
         ),
         (
             "a",
             "4 -2 0 -1 0\n",
-            Checked::Refused(1, Fault::StrangeGroup(1)),
+            Checked::Refused(1, Fault::Because(Cause::StrangeGroup(1))),
         ),
         ("a", "4 1 0 1 0\n", Checked::NoEmptyClause),
         ("a", "", Checked::NoEmptyClause),

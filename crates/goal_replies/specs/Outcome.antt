@@ -1,7 +1,7 @@
 -- What a certificate comes to, as it is told.
 use Rattle.cert_check.specs.declared.checked.Checked.{Checked}
 use Rattle.cert_check.specs.declared.checked.Checked.TheVariants as checked
-use Rattle.cert_check.specs.Shown.{fault_shown}
+use Rattle.lrat_replay.specs.Shown.{fault_shown}
 use Rattle.bvd_report.specs.Report.{Told, Accepted, Refused, NoEmptyClause, AbsentCertificate, OutOfMemory}
 
 abbrev pub checked_told : Checked → Told

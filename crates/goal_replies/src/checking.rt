@@ -3,33 +3,17 @@ ghost use Rattle.std.specs.Prelude.{◌≡◌, ◌≤◌, ◌⊎◌, [], IfOk, O
 ghost use Rattle.bvd_host.specs.Causes.{Rose};
 ghost use Rattle.bv_expr.specs.Propositional.{IsPropositional};
 ghost use Rattle.bv_lines.specs.Statement.{statement_of};
-ghost use Rattle.bvd_report.specs.Shown.{fault_shown, told_shown};
-ghost use Rattle.cert_check.specs.Shown as own;
+ghost use Rattle.bvd_report.specs.Shown.{told_shown};
 ghost use Rattle.goal_replies.specs.Checked.{IsCheckedAs, IsChecked};
 ghost use Rattle.goal_replies.specs.Outcome.{checked_told};
 
 use crate::decided::{truth_goal, truth_meant};
 use bv_expr::Goal;
 use bvd_host::keeper::Keeper;
-use bvd_report::told::{self, Told};
-use cert_check::{Checked, DeviceFailed, Fault, check};
+use bvd_report::told::Told;
+use cert_check::{Checked, DeviceFailed, check};
 use goal_formula::{FormulaStop, formula_of};
 use std::alloc::Global;
-
-/// Why a line is refused, as the report names it.
-fn fault_told(fault: Fault) -> told::Fault
-    ensures { fault_shown result ≡ own.fault_shown fault }
-{
-    match fault {
-        Fault::BadLine => told::Fault::BadLine,
-        Fault::IdInUse => told::Fault::IdInUse,
-        Fault::NoClause(id) => told::Fault::NoClause(id),
-        Fault::NotUnit(id) => told::Fault::NotUnit(id),
-        Fault::NoConflict => told::Fault::NoConflict,
-        Fault::MissingGroup(id) => told::Fault::MissingGroup(id),
-        Fault::StrangeGroup(id) => told::Fault::StrangeGroup(id),
-    }
-}
 
 /// What a certificate comes to, as it is told.
 fn told_of(checked: Checked) -> Told
@@ -37,7 +21,7 @@ fn told_of(checked: Checked) -> Told
 {
     match checked {
         Checked::Accepted => Told::Accepted,
-        Checked::Refused(line, fault) => Told::Refused(line, fault_told(fault)),
+        Checked::Refused(line, fault) => Told::Refused(line, fault),
         Checked::NoEmptyClause => Told::NoEmptyClause,
         Checked::Absent => Told::AbsentCertificate,
         Checked::OutOfMemory => Told::OutOfMemory,

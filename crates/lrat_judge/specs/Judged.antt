@@ -17,8 +17,9 @@ cause_shown NoConflict = judge.Cause.NoConflict
 cause_shown (MissingGroup id) = judge.Cause.MissingGroup id
 cause_shown (StrangeGroup id) = judge.Cause.StrangeGroup id
 
--- what the judge answers of a line, by what the definition comes to
-abbrev pub IsJudged : Judged → Clauses → Result Clauses judge.Cause → Bool → Type 0
-IsJudged (Refused cause) new verdict last = verdict ≡ Err (cause_shown cause)
-IsJudged Kept new verdict last = (verdict ≡ Ok new) × (last ≡ false)
-IsJudged Empty new verdict last = (verdict ≡ Ok new) × (last ≡ true)
+-- What the judge answers of a line, by what the definition comes to: a line that is refused leaves the clauses, and else
+-- the new ones are those of the definition.
+abbrev pub IsJudged : Judged → Clauses → Clauses → Result Clauses judge.Cause → Bool → Type 0
+IsJudged (Refused cause) old new verdict last = (verdict ≡ Err (cause_shown cause)) × (new ≡ old)
+IsJudged Kept old new verdict last = (verdict ≡ Ok new) × (last ≡ false)
+IsJudged Empty old new verdict last = (verdict ≡ Ok new) × (last ≡ true)

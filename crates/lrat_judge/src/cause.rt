@@ -20,7 +20,7 @@ pub enum Cause {
 /// What became of a line.
 #[derive(Clone, Copy, Debug, PartialEq, Eq)]
 pub enum Judged {
-    /// The line is refused, and nothing is said of the clauses then.
+    /// The line is refused, and the clauses stay as they were.
     Refused(Cause),
     /// It checks, and doesn't add the empty clause.
     Kept,

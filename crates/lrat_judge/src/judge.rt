@@ -119,7 +119,7 @@ impl Judge {
 
     /// Judges an addition, and takes over its clause.
     fn add(&mut self, id: u64, lits: Vec<Lit>, hints: &[i64]) -> Result<Judged, AllocError>
-        ensures { IfOk result (λ judged. IsJudged judged self.new (judge.judge self.old (Addition id lits.items hints.now)) (is_last (Addition id lits.items hints.now))) }
+        ensures { IfOk result (λ judged. IsJudged judged self.old self.new (judge.judge self.old (Addition id lits.items hints.now)) (is_last (Addition id lits.items hints.now))) }
     {
         if let Some(cause) = judge_add(
             self.alloc,
@@ -140,13 +140,13 @@ impl Judge {
         Ok(judged)
     }
 
-    /// Judges a line, and takes over what it adds or deletes. The only error is want of memory; nothing is said of the
-    /// clauses then, as after a refusal.
+    /// Judges a line, and takes over what it adds or deletes. A line that is refused leaves the clauses as they were. The
+    /// only error is want of memory; nothing is said of the clauses then.
     ///
     /// A hint costs the length of the clause that it names, and each id that is named O(log n) for n clauses. Where the
     /// hints before the groups make no conflict, all clauses are gone over once for the negated pivot.
     pub fn take(&mut self, line: Line) -> Result<Judged, AllocError>
-        ensures { IfOk result (λ judged. IsJudged judged self.new (judge.judge self.old (seen line)) (is_last (seen line))) }
+        ensures { IfOk result (λ judged. IsJudged judged self.old self.new (judge.judge self.old (seen line)) (is_last (seen line))) }
     {
         match line {
             Line::Skip => Ok(Judged::Kept),

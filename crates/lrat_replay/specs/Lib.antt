@@ -1,4 +1,5 @@
 pub mod Answer
+pub mod Shown
 pub mod Memory
 pub mod Line
 pub mod Leads

@@ -3,10 +3,12 @@
 #![tactic(auto)]
 
 mod checker;
+mod fault;
 mod progress;
 mod stop;
 #[cfg(test)]
 mod tests;
 
 pub use checker::replay;
+pub use fault::Fault;
 pub use stop::ReplayStop;

@@ -1,6 +1,6 @@
 use Rattle.std.proofs.Common.{◌++◌, codes}
 use Rattle.bvd_report.specs.Report.{certificate_name, refusal_text}
-use Rattle.bvd_report.specs.Shown.{fault_shown}
+use Rattle.lrat_replay.specs.Shown.{fault_shown}
 use Rattle.bvd_report.proofs.Pieces.{then_last}
 use Rattle.bvd_report.proofs.goal_line.push_refused.Goals as goal
 

@@ -15,5 +15,5 @@ returns-in-Refused c rest known =
       c.args.number,
       Because (cause_shown c.in-Refused.cause),
       c.refused.ensures,
-      refused_line c.args.judge.now c.args.number c.args.text.now rest (seen c.in-Ok.line) (cause_shown c.in-Refused.cause) c.in-Ok.ensures.line verdict,
+      refused_line c.args.judge.now c.args.number c.args.text.now rest (seen c.in-Ok.line) (cause_shown c.in-Refused.cause) c.in-Ok.ensures.line verdict.0,
     )

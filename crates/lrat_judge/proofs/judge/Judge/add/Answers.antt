@@ -11,14 +11,14 @@ use Rattle.lrat_judge.proofs.Judging.{refused, checked, last_by_length}
 use Rattle.lrat_judge.proofs.judge.Judge.add.Goals as goal
 use Rattle.lrat_judge.proofs.judge.Judge.add.Goals.{then-is_empty, else-is_empty}
 
-shown_empty : (judged : Judged) (new : Clauses) (verdict : Result Clauses Cause) (last : Bool) → judged ≡ Empty → verdict ≡ Ok new → last ≡ true → IsJudged judged new verdict last
-shown_empty judged new verdict last e v l = subst (λ (j : Judged). IsJudged j new verdict last) (sym e) (v, l)
+shown_empty : (judged : Judged) (old new : Clauses) (verdict : Result Clauses Cause) (last : Bool) → judged ≡ Empty → verdict ≡ Ok new → last ≡ true → IsJudged judged old new verdict last
+shown_empty judged old new verdict last e v l = subst (λ (j : Judged). IsJudged j old new verdict last) (sym e) (v, l)
 
-shown_kept : (judged : Judged) (new : Clauses) (verdict : Result Clauses Cause) (last : Bool) → judged ≡ Kept → verdict ≡ Ok new → last ≡ false → IsJudged judged new verdict last
-shown_kept judged new verdict last e v l = subst (λ (j : Judged). IsJudged j new verdict last) (sym e) (v, l)
+shown_kept : (judged : Judged) (old new : Clauses) (verdict : Result Clauses Cause) (last : Bool) → judged ≡ Kept → verdict ≡ Ok new → last ≡ false → IsJudged judged old new verdict last
+shown_kept judged old new verdict last e v l = subst (λ (j : Judged). IsJudged j old new verdict last) (sym e) (v, l)
 
 pub returns-in-Some : goal.returns-in-Some
-returns-in-Some c = refused c.args.self.now c.self.inside.known c.args.id c.args.lits.items c.deref.result.now c.args.hints.now c.in_ok-cause.field-0 c.self.view_is c.deref.ensures.value c.in_ok-cause.ensures.cause c.in-Some.cause c.in-Some.is
+returns-in-Some c = (refused c.args.self.now c.self.inside.known c.args.id c.args.lits.items c.deref.result.now c.args.hints.now c.in_ok-cause.field-0 c.self.view_is c.deref.ensures.value c.in_ok-cause.ensures.cause c.in-Some.cause c.in-Some.is, c.self.view_is)
 
 pub returns : goal.returns
 returns c =
@@ -28,6 +28,6 @@ returns c =
     let last : (b : Bool) → c.is_empty.result ≡ b → is_last (Addition c.args.id c.args.lits.items c.args.hints.now) ≡ b =
     (λ b h. last_by_length c.args.id c.args.lits.items c.args.hints.now (vec_len c.args.lits) b length_is (sym c.is_empty.ensures ∙ h)) in
     elim c.if-is_empty.branch [
-      | then-is_empty w ↦ shown_empty c.if-is_empty.judged c.add.new.self (judge c.args.self.now (Addition c.args.id c.args.lits.items c.args.hints.now)) (is_last (Addition c.args.id c.args.lits.items c.args.hints.now)) w.judged-is verdict (last true w.if-is_empty.true)
-      | else-is_empty w ↦ shown_kept c.if-is_empty.judged c.add.new.self (judge c.args.self.now (Addition c.args.id c.args.lits.items c.args.hints.now)) (is_last (Addition c.args.id c.args.lits.items c.args.hints.now)) w.judged-is verdict (last false w.if-is_empty.false)
+      | then-is_empty w ↦ shown_empty c.if-is_empty.judged c.args.self.now c.add.new.self (judge c.args.self.now (Addition c.args.id c.args.lits.items c.args.hints.now)) (is_last (Addition c.args.id c.args.lits.items c.args.hints.now)) w.judged-is verdict (last true w.if-is_empty.true)
+      | else-is_empty w ↦ shown_kept c.if-is_empty.judged c.args.self.now c.add.new.self (judge c.args.self.now (Addition c.args.id c.args.lits.items c.args.hints.now)) (is_last (Addition c.args.id c.args.lits.items c.args.hints.now)) w.judged-is verdict (last false w.if-is_empty.false)
     ]
