@@ -1,0 +1,13 @@
+pub mod Nesting
+pub mod Spelled
+pub mod Reading
+pub mod Naming
+pub mod Encoding
+pub mod Running
+pub mod Passing
+pub mod Shapes
+pub mod Values
+pub mod Longest
+pub mod Bounds
+pub mod Kept
+pub mod Unique

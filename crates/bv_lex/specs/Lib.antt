@@ -1,0 +1,12 @@
+pub mod Letters
+pub mod Words
+pub mod Signs
+pub mod Pieces
+pub mod Cut
+pub mod Laws
+pub mod Runs
+pub mod Encoded
+pub mod Passed
+pub mod Classes
+pub mod Fronts
+pub mod Kept
