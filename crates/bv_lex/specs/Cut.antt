@@ -54,6 +54,7 @@ IsSpanWithin n t = (t.from < t.to) × (t.to ≤ n)
 abbrev pub EndsBefore : Token → Token → Type 0
 EndsBefore t u = t.to ≤ u.from
 
+-- want of memory
 abbrev pub IsMemory : FaultKind → Type 0
 IsMemory (Memory e) = Unit {0}
 IsMemory Lex = ⊥
