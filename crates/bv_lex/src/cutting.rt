@@ -41,7 +41,9 @@ fn keep(tokens: &mut Vec<Token>, piece: Piece, from: usize, place: Place) -> Res
     Ok(())
 }
 
-/// The tokens of a file of at most 4,194,304 bytes, in their order. What stands between them is blanks and comments.
+/// The tokens of a file of at most 4,194,304 bytes, in their order. The longest token is taken, and needs no blank behind
+/// it. What stands between tokens is spaces, tabs, CR and LF, comments from `--` to the line's end, and comments from `/-`
+/// to `-/`, which may be nested. LF alone ends a line.
 ///
 /// `Lex` is answered at the first byte that isn't UTF-8, at a character that begins no token, at `0x` or `0b` without a
 /// digit behind it, and at the opening of a comment or a string that isn't closed; `Limit(Number)` at a numeral of 2^128
