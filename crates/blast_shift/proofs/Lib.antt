@@ -1,0 +1,8 @@
+pub mod Wiring
+pub mod Cuts
+pub mod Standing
+pub mod Amounts
+pub mod Values
+pub mod Staging
+pub mod Moves
+pub mod Shifting

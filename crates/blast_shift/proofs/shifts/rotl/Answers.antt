@@ -1,0 +1,16 @@
+use Rattle.std.proofs.Common.{refl}
+use Rattle.gate_shape.specs.Builds.{edges}
+use Rattle.bv_value.specs.Operations as is
+use Rattle.blast_shift.specs.Word.{word}
+use Rattle.blast_shift.proofs.Wiring.{wired_as, joined_left, written, at_least}
+use Rattle.blast_shift.proofs.Standing.{stand_rotated_left}
+use Rattle.blast_shift.proofs.Values.{rotated_left-value}
+use Rattle.blast_shift.proofs.shifts.rotl.Goals as goal
+
+pub returns-clause-built : goal.returns-clause-built
+returns-clause-built g c = wired_as _ (joined_left c.args.x.now _ _) (stand_rotated_left c.args.x.now c.requires.known c.args.n c.requires.positive refl) c.joined.ensures
+
+pub returns-clause-value : goal.returns-clause-value
+returns-clause-value g c =
+    let xs = edges (g.B.Builder.meaning c.args.b.now) c.args.x.now in
+    written _ (λ bits. is.rotl (word bits xs) c.args.n) (returns-clause-built g c) (λ bits. rotated_left-value bits c.args.n xs (at_least _ c.args.x.now c.requires.positive))

@@ -1,0 +1,14 @@
+use Rattle.gate_shape.specs.Builds.{edges}
+use Rattle.gate_shape.specs.Bits.{written_number}
+use Rattle.bv_value.specs.Operations as is
+use Rattle.blast_shift.specs.Word.{word}
+use Rattle.blast_shift.proofs.Wiring.{written}
+use Rattle.blast_shift.proofs.Moves.{is_move_down}
+use Rattle.blast_shift.proofs.Shifting.{variable_shift-word}
+use Rattle.blast_shift.proofs.stages.lshr.Goals as goal
+
+pub returns-clause-value : goal.returns-clause-value
+returns-clause-value g c =
+    let xs = edges (g.B.Builder.meaning c.args.b.now) c.args.x.now in
+    let ys = edges (g.B.Builder.meaning c.args.b.now) c.args.y.now in
+    written _ (λ bits. is.lshr_by (word bits xs) (written_number bits ys)) c.variable_shift.ensures (λ bits. variable_shift-word is_move_down bits xs ys tt)

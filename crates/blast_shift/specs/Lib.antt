@@ -1,0 +1,4 @@
+pub mod Word
+pub mod Wires
+pub mod Stages
+pub mod Ways
