@@ -13,7 +13,7 @@ use Rattle.bv_value.specs.BitVector.{BitVector}
 use Rattle.bv_value.specs.Operations as is
 use Rattle.blast_logic.specs.Chosen.{chosen}
 use Rattle.blast_logic.proofs.Picking.{chosen-value, chosen-length}
-use Rattle.blast_shift.specs.Word.{word}
+use Rattle.blast_arith.specs.Words.{word}
 use Rattle.blast_shift.specs.Wires.{top_bit, shifted_right_signed}
 use Rattle.blast_shift.specs.Stages.{stage, stages, or_overflow, overflow, variable_shift, variable_shift_signed}
 use Rattle.blast_shift.proofs.Moves.{IsMove, is_move_down_signed}

@@ -10,7 +10,7 @@ use Rattle.gate_shape.proofs.Numbers.{written-below, written-append}
 use Rattle.bv_value.specs.BitVector.{residue, floor_quotient, signed}
 use Rattle.bv_value.specs.Operations as is
 use Rattle.bv_value.proofs.Signs.{signed_low, signed_high}
-use Rattle.blast_shift.specs.Word.{word}
+use Rattle.blast_arith.specs.Words.{word}
 use Rattle.blast_shift.specs.Wires.{bit_at, top_bit, appended, shifted_left, shifted_right, shifted_right_signed, rotated_left, rotated_right, extracted, with_width, sign_extended}
 use Rattle.blast_shift.proofs.Cuts.{shifted_left-is, shifted_right-is, shifted_right_signed-is, rotated_left-is, rotated_right-is, extracted-is, with_width-is, sign_extended-is}
 use Rattle.blast_shift.proofs.Amounts.{number-resized, number-resized_ones, number-left_zeros, number-left_ones, number-shifted_left, number-rotated_left, number-rotated_right, number-turned, bit-is, top-is}

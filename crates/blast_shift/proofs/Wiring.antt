@@ -11,7 +11,7 @@ use Rattle.gate_shape.specs.declared.builder.GateStop.{GateStop}
 use Rattle.gate_shape.specs.declared.builder.GateStop.TheVariants.{Deep, Full, Memory}
 use Rattle.gate_shape.proofs.Building.{builds_plain, builds_memory, keeps_self, answers_with, stand_none, stand_cons}
 use Rattle.bv_value.specs.BitVector.{BitVector}
-use Rattle.blast_shift.specs.Word.{word}
+use Rattle.blast_arith.specs.Words.{word}
 
 -- a list that was made, or want of memory
 pub wired : {T : Type 0} {n : Noting} {m : Meaning} {ls : List Literal} {es : List Edge} (items : T → List Literal) {r : Result T GateStop} → StandAll m ls es → MatchResult r (λ v. items v ≡ ls) IsMemory → Builds n (λ m v. StandAll m (items v)) m m r (plain es)

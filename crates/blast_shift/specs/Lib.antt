@@ -1,4 +1,3 @@
-pub mod Word
 pub mod Wires
 pub mod Stages
 pub mod Ways

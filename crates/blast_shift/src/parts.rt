@@ -5,7 +5,7 @@ ghost use Rattle.std.specs.Prelude.{◌≡◌, ◌≤◌, ℕ, Bool, IfOk, IsOk,
 ghost use Rattle.gate_shape.specs.Row.{plain};
 ghost use Rattle.gate_shape.specs.Builds.{Stands, edge, AllKnown, edges, Builds, StandAll};
 ghost use Rattle.bv_value.specs.Operations as is;
-ghost use Rattle.blast_shift.specs.Word.{word};
+ghost use Rattle.blast_arith.specs.Words.{word};
 ghost use Rattle.blast_shift.specs.Wires.{appended, extracted, with_width, sign_extended, bit_at, top_bit};
 
 use crate::lists::{capped, joined, resized};

@@ -4,7 +4,7 @@ ghost use Rattle.std.specs.Prelude.{◌≡◌, ◌≤◌, ℕ, Bool, IfOk, lengt
 ghost use Rattle.gate_shape.specs.Row.{plain};
 ghost use Rattle.gate_shape.specs.Builds.{AllKnown, edges, Builds, StandAll};
 ghost use Rattle.bv_value.specs.Operations as is;
-ghost use Rattle.blast_shift.specs.Word.{word};
+ghost use Rattle.blast_arith.specs.Words.{word};
 ghost use Rattle.blast_shift.specs.Wires.{shifted_left, shifted_right, shifted_right_signed, rotated_left, rotated_right};
 
 use crate::lists::{behind_copies, capped, joined, resized};

@@ -5,7 +5,7 @@ ghost use Rattle.gate_shape.specs.Row.{plain, each, both};
 ghost use Rattle.gate_shape.specs.Bits.{written_number};
 ghost use Rattle.gate_shape.specs.Builds.{Known, AllKnown, edge, edges, Builds, Stands, StandAll};
 ghost use Rattle.bv_value.specs.Operations as is;
-ghost use Rattle.blast_shift.specs.Word.{word};
+ghost use Rattle.blast_arith.specs.Words.{word};
 ghost use Rattle.blast_shift.specs.Wires.{shifted_left, shifted_right};
 ghost use Rattle.blast_shift.specs.Stages.{stage as stage_row, stages as stage_rows, or_overflow as overflow_step, overflow as overflow_row, variable_shift as variable_shift_row, variable_shift_signed};
 ghost use Rattle.blast_shift.specs.Ways.{moved_by as row_moved_by};

@@ -1,6 +1,6 @@
 use Rattle.gate_shape.specs.Builds.{edges}
 use Rattle.bv_value.specs.Operations as is
-use Rattle.blast_shift.specs.Word.{word}
+use Rattle.blast_arith.specs.Words.{word}
 use Rattle.blast_shift.proofs.Wiring.{wired_as, resized_left, written, at_least}
 use Rattle.blast_shift.proofs.Standing.{stand_shifted_right_signed}
 use Rattle.blast_shift.proofs.Values.{shifted_right_signed-value}

@@ -5,7 +5,7 @@ use Rattle.gate_shape.specs.Builds.{edge, edges}
 use Rattle.gate_shape.proofs.Building.{builds_then, builds_exit, builds_answer, builds_at_one_and_lists, stand_self, stand_after, stands_after, stand_lengths}
 use Rattle.bv_value.specs.Operations as is
 use Rattle.blast_logic.specs.Chosen.{chosen}
-use Rattle.blast_shift.specs.Word.{word}
+use Rattle.blast_arith.specs.Words.{word}
 use Rattle.blast_shift.specs.Wires.{top_bit}
 use Rattle.blast_shift.specs.Stages.{variable_shift_signed}
 use Rattle.blast_shift.proofs.Wiring.{written, stand_given, stand_as, stand_copies, at_least}

@@ -1,7 +1,7 @@
 use Rattle.gate_shape.specs.Builds.{edges}
 use Rattle.gate_shape.specs.Bits.{written_number}
 use Rattle.bv_value.specs.Operations as is
-use Rattle.blast_shift.specs.Word.{word}
+use Rattle.blast_arith.specs.Words.{word}
 use Rattle.blast_shift.proofs.Wiring.{written}
 use Rattle.blast_shift.proofs.Moves.{is_move_up}
 use Rattle.blast_shift.proofs.Shifting.{variable_shift-word}
