@@ -10,6 +10,8 @@ mod lists;
 mod parts;
 mod shifts;
 mod stages;
+#[cfg(test)]
+mod tests;
 
 pub use parts::{append, bit, extract, msb, set_width, sign_extend};
 pub use shifts::{ashr_by, lshr_by, rotl, rotr, shl_by};
