@@ -1,0 +1,4 @@
+pub mod Dividing
+pub mod Zeros
+pub mod Magnitudes
+pub mod Signing
