@@ -1,0 +1,9 @@
+pub mod Place
+pub mod Derivations
+pub mod Tables
+pub mod Rules
+pub mod Unique
+pub mod Pushing
+pub mod Sound
+pub mod Counting
+pub mod Stepping

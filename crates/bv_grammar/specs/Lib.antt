@@ -1,0 +1,6 @@
+pub mod Operators
+pub mod Grammar
+pub mod Derivation
+pub mod Taking
+pub mod Laws
+pub mod Moves
