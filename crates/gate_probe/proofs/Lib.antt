@@ -1,0 +1,5 @@
+pub mod Parts
+pub mod Keeping
+pub mod Standing
+pub mod Meaning
+pub mod Searching
