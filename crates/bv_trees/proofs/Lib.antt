@@ -1,0 +1,5 @@
+pub mod Means
+pub mod Derived
+pub mod Unique
+pub mod Reading
+pub mod Whole

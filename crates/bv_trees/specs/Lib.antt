@@ -1,0 +1,4 @@
+pub mod Trees
+pub mod Terms
+pub mod Files
+pub mod Laws
