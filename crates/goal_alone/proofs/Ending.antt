@@ -1,5 +1,5 @@
 -- What the end of a goal's search means.
-use Rattle.std.proofs.Common.{◌≡◌, ℕ, ◌+◌, ◌≤◌, Bool, List, length, sym, ◌∙◌, ap, ap₂, arith}
+use Rattle.std.proofs.Common.{◌≡◌, ℕ, ◌+◌, ◌≤◌, Bool, false, List, length, sym, ◌∙◌, ap, ap₂, arith}
 use Rattle.bv_expr.specs.declared.ops.Val.{Val}
 use Rattle.bv_expr.specs.Term.{Term}
 use Rattle.bv_expr.specs.Goal.{Binders, AreValues, Falsifies}
@@ -13,54 +13,48 @@ use Rattle.search_learn.specs.Machine.{Machine, run}
 use Rattle.lrat_lines.specs.Lines.{written}
 use Rattle.lrat_trim.specs.Trim.{trim}
 use Rattle.cdcl_solver.specs.Progress.{Progress}
-use Rattle.goal_formula.specs.Ends.{End, Made, TooDeep, TooMany}
-use Rattle.goal_formula.specs.Formula.{goal_edge, goal_end, goal_clauses, goal_variables}
+use Rattle.goal_alone.specs.Ends.{End, Made, TooDeep, TooMany}
+use Rattle.goal_alone.specs.Formula.{goal_edge, goal_end, goal_clauses, goal_variables}
 use Rattle.cone_walk.specs.Cone.{cone_node, cone_nodes}
 use Rattle.cone_walk.specs.Order.{order}
 use Rattle.gate_shape.specs.Edge.{Edge}
 use Rattle.std.proofs.lemmas.List.{length-map}
-use Rattle.goal_formula.specs.Satisfying.{node_bits, values_of, IsRefutation}
+use Rattle.goal_alone.specs.Satisfying.{node_bits, values_of, IsRefutation}
 use Rattle.goal_alone.specs.Alone.{Answer, answer_of, solved, alone}
 use Rattle.goal_alone.specs.Alone as answer
-use Rattle.goal_alone.specs.Ended.{ended}
+use Rattle.goal_alone.specs.Ended.{HasEnded}
+use Rattle.goal_alone.proofs.Turns.{whole_run}
+
+module _ (binders : Binders) (hyps : List Term) (concl : Term) (s : Progress) (end : Turn) (h : HasEnded (goal_variables hyps concl) (goal_clauses hyps concl) s end) where
+  abbrev goal_run : Machine
+  goal_run = run (goal_variables hyps concl) (goal_clauses hyps concl) s.budget
+
+  machine_is : s.machine ≡ goal_run
+  machine_is = ap (λ (x : Progress). x.machine) (whole_run (goal_variables hyps concl) (goal_clauses hyps concl) s end h)
+
+  pub clauses_are : s.clauses ≡ goal_clauses hyps concl
+  clauses_are = ap (λ (x : Progress). x.clauses) h.reached
+
+  pub whole : s.broken ≡ false
+  whole = ap (λ (x : Progress). x.broken) h.reached
+
+  answer_at : (t : Turn) → end ≡ t → solved binders hyps concl s.budget ≡ answer_of binders (goal_edge hyps concl) (goal_clauses hyps concl) goal_run t
+  unfolding solved
+  answer_at t e = ap (answer_of binders (goal_edge hyps concl) (goal_clauses hyps concl) goal_run) (sym (ap (λ (m : Machine). m.state.end) machine_is) ∙ (h.end_is ∙ e))
+
+  pub at_unsat : (text : List ℕ) → end ≡ turn.Unsat → text ≡ written (trim (length s.clauses) s.machine.log) → solved binders hyps concl s.budget ≡ answer.Proved text
+  at_unsat text e is = answer_at turn.Unsat e ∙ ap answer.Proved (sym (is ∙ ap₂ (λ (cs : List (List Literal)) (m : Machine). written (trim (length cs) m.log)) clauses_are machine_is))
+
+  pub at_sat : (nodes : List ConeNode) (signs : List Bool) (found : List Val) → end ≡ turn.Sat → nodes ≡ cone_nodes (goal_edge hyps concl) → signs ≡ s.machine.state.signs
+      → found ≡ values_of binders (node_bits nodes (value_of signs)) → solved binders hyps concl s.budget ≡ answer.False found
+  at_sat nodes signs found e cone values is =
+      let signs_are : signs ≡ goal_run.state.signs = values ∙ ap (λ (m : Machine). m.state.signs) machine_is in
+      answer_at turn.Sat e ∙ ap answer.False (sym (is ∙ ap₂ (λ ns bs. values_of binders (node_bits ns (value_of bs))) cone signs_are))
+
+  pub at_budget : (spent : ℕ) → end ≡ turn.Budget spent → solved binders hyps concl s.budget ≡ answer.Budget spent
+  at_budget spent e = answer_at (turn.Budget spent) e
 
 module _ (binders : Binders) (hyps : List Term) (concl : Term) (budget : ℕ) where
-  abbrev goal_run : Machine
-  goal_run = run (goal_variables hyps concl) (goal_clauses hyps concl) budget
-
-  -- a search over the goal's clauses, at its end
-  pub record IsOfGoal (s : Progress) : Type 0 where
-    pub clauses : s.clauses ≡ goal_clauses hyps concl
-    pub machine : s.machine ≡ goal_run
-
-  pub of_goal : (vars : ℕ) (cs : List (List Literal)) (s : Progress) → s ≡ ended vars cs budget → vars ≡ goal_variables hyps concl → cs ≡ goal_clauses hyps concl → IsOfGoal s
-  of_goal vars cs s e v c = record {
-    clauses = ap (λ (x : Progress). x.clauses) e ∙ c;
-    machine = ap (λ (x : Progress). x.machine) e ∙ ap₂ (λ n ds. run n ds budget) v c;
-  }
-
-  answer_at : (t : Turn) → goal_run.state.end ≡ t → solved binders hyps concl budget ≡ answer_of binders (goal_edge hyps concl) (goal_clauses hyps concl) goal_run t
-  unfolding solved
-  answer_at t e = ap (answer_of binders (goal_edge hyps concl) (goal_clauses hyps concl) goal_run) e
-
-  end_is : (s : Progress) (t : Turn) → IsOfGoal s → s.machine.state.end ≡ t → goal_run.state.end ≡ t
-  end_is s t of e = sym (ap (λ (m : Machine). m.state.end) of.machine) ∙ e
-
-  pub at_unsat : (s : Progress) (text : List ℕ) → IsOfGoal s → s.machine.state.end ≡ turn.Unsat → text ≡ written (trim (length s.clauses) s.machine.log) → solved binders hyps concl budget ≡ answer.Proved text
-  at_unsat s text of e is =
-      answer_at turn.Unsat (end_is s turn.Unsat of e)
-      ∙ ap answer.Proved (sym (is ∙ ap₂ (λ (cs : List (List Literal)) (m : Machine). written (trim (length cs) m.log)) of.clauses of.machine))
-
-  pub at_sat : (s : Progress) (nodes : List ConeNode) (signs : List Bool) (found : List Val) → IsOfGoal s → s.machine.state.end ≡ turn.Sat → nodes ≡ cone_nodes (goal_edge hyps concl)
-      → signs ≡ s.machine.state.signs → found ≡ values_of binders (node_bits nodes (value_of signs)) → solved binders hyps concl budget ≡ answer.False found
-  at_sat s nodes signs found of e cone values is =
-      let signs_are : signs ≡ goal_run.state.signs = values ∙ ap (λ (m : Machine). m.state.signs) of.machine in
-      answer_at turn.Sat (end_is s turn.Sat of e)
-      ∙ ap answer.False (sym (is ∙ ap₂ (λ ns bs. values_of binders (node_bits ns (value_of bs))) cone signs_are))
-
-  pub at_budget : (s : Progress) (spent : ℕ) → IsOfGoal s → s.machine.state.end ≡ turn.Budget spent → solved binders hyps concl budget ≡ answer.Budget spent
-  at_budget s spent of e = answer_at (turn.Budget spent) (end_is s (turn.Budget spent) of e)
-
   alone_by : (e : End) → goal_end hyps concl ≡ e → alone binders hyps concl budget ≡ elim e as (λ _. Answer) [ TooDeep ↦ answer.Deep | TooMany ↦ answer.Large | Made ↦ solved binders hyps concl budget ]
   unfolding alone
   alone_by e is = ap (λ (x : End). elim x as (λ _. Answer) [ TooDeep ↦ answer.Deep | TooMany ↦ answer.Large | Made ↦ solved binders hyps concl budget ]) is

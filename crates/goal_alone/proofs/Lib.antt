@@ -1,3 +1,11 @@
+pub mod Ended
+pub mod Counting
+pub mod Asking
+mod Once
+pub mod Reading
+mod Agreeing
+pub mod Satisfied
+mod Rows
 pub mod Turns
 pub mod Numbers
 pub mod Sifting

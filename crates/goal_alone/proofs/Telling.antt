@@ -7,7 +7,7 @@ use Rattle.sat_form.specs.Literals.{Literal}
 use Rattle.sat_form.specs.Truth.{HaveNoValues}
 use Rattle.lrat_lines.specs.Replay.{TextComesTo}
 use Rattle.lrat_lines.specs.Replay.Verdict.{Accepted}
-use Rattle.goal_formula.specs.Satisfying.{IsSatisfiable, IsFalsifiable}
+use Rattle.goal_alone.specs.Satisfying.{IsSatisfiable, IsFalsifiable}
 use Rattle.goal_alone.specs.declared.reply.Reply.{Reply}
 use Rattle.goal_alone.specs.declared.reply.Reply.TheVariants as reply
 use Rattle.goal_alone.specs.Told.{IfProved}

@@ -1,8 +1,9 @@
 -- The text of lines, one after another.
-use Rattle.std.proofs.Common.{◌≡◌, ◌+◌, ◌<◌, ◌++◌, ◌∷◌, [], ℕ, zero, suc, Bool, true, false, List, take, map, get_or, refl, sym, ◌∙◌, ap, length, arith}
-use Rattle.std.specs.Prelude.{◌&&◌, IfOk, Ok, Err}
+use Rattle.std.proofs.Common.{◌≡◌, ◌+◌, ◌<◌, ◌++◌, ◌∷◌, [], ℕ, zero, suc, Bool, true, List, take, map, get_or, sym, ◌∙◌, ap, length, arith}
+use Rattle.std.specs.Prelude.{IfOk, Ok, Err}
 use Rattle.std.specs.declared.result.Result.{Result}
 use Rattle.std.specs.List.{list_all}
+use Rattle.std.proofs.lemmas.Bool.{and_parts}
 use Rattle.std.proofs.lemmas.Grind.{flat_map-append}
 use Rattle.std.proofs.lemmas.List.{take_more, map-append, append-nil}
 use Rattle.lrat_lines.specs.Lines as lines
@@ -11,15 +12,11 @@ use Rattle.lrat_lines.proofs.Spelling.{text_reads_back}
 use Rattle.lrat_lines.specs.Seen.{seen}
 use Rattle.lrat_lines.specs.declared.line.Line.{Line}
 
-both : (a b : Bool) → a && b ≡ true → (a ≡ true) × (b ≡ true)
-both true b g = (refl, g)
-both false b g = cc
-
 -- each of them may be written
 all_at : (p : lines.Line → Bool) (xs : List Line) (i : ℕ) (x : Line) → list_all p (map seen xs) ≡ true → i < length xs → x ≡ get_or xs i x → p (seen x) ≡ true
 all_at p [] i x h l e = absurd (omega arith)
-all_at p (y ∷ ys) zero x h l e = rw e (both (p (seen y)) (list_all p (map seen ys)) h).0
-all_at p (y ∷ ys) (suc i) x h l e = all_at p ys i x (both (p (seen y)) (list_all p (map seen ys)) h).1 (omega arith) e
+all_at p (y ∷ ys) zero x h l e = rw e (and_parts (p (seen y)) (list_all p (map seen ys)) h).0
+all_at p (y ∷ ys) (suc i) x h l e = all_at p ys i x (and_parts (p (seen y)) (list_all p (map seen ys)) h).1 (omega arith) e
 
 pub may_write : (xs : List Line) (i : ℕ) (x : Line) → list_all is_writable (map seen xs) ≡ true → i < length xs → x ≡ get_or xs i x → is_writable (seen x) ≡ true
 may_write xs i x h l e = all_at is_writable xs i x h l e

@@ -4,11 +4,12 @@ use Rattle.std.specs.Prelude.{nat_le, Bool, true, false, refl}
 use Rattle.std.proofs.lemmas.Grind.{common_steps}
 use Rattle.sat_form.specs.Literals.{Literal}
 use Rattle.search_learn.specs.declared.Turn.TheVariants.{More}
-use Rattle.search_learn.specs.Machine.{Machine, machine}
+use Rattle.search_learn.specs.Machine.{Machine, machine, run}
 use Rattle.search_learn.proofs.Runs.{run_ends}
 use Rattle.cdcl_solver.specs.Progress.{Progress, opened, turned}
 use Rattle.cdcl_solver.proofs.Going.{steps_more, turned_ended}
-use Rattle.goal_alone.specs.Ended.{ended}
+use Rattle.search_learn.specs.declared.Turn.{Turn}
+use Rattle.goal_alone.specs.Ended.{ended, HasEnded}
 
 -- after this many turns of a thousand steps the search goes on
 pub record IsGoing (vars : ℕ) (cs : List (List Literal)) (budget turns : ℕ) (s : Progress) : Type 0 where
@@ -52,3 +53,17 @@ no_more vars cs budget turns s g l =
     let enough : budget + 1 ≤ 1000 * turns = omega arith in
     let is : s ≡ ended vars cs budget = g.so_far ∙ sym (past_end vars cs budget (1000 * turns) enough) in
     run_ends vars cs budget (sym (ap (λ (x : Progress). x.machine.state.end) is) ∙ g.going (omega arith))
+
+-- a search that has ended is where its run ends
+pub whole_run : (vars : ℕ) (cs : List (List Literal)) (s : Progress) (end : Turn) → HasEnded vars cs s end → s ≡ ended vars cs s.budget
+whole_run vars cs s end h =
+    h.reached ∙ at_end vars cs s.budget h.steps (λ e. h.is_end (sym h.end_is ∙ (ap (λ (x : Progress). x.machine.state.end) h.reached ∙ e)))
+
+-- where a run ends a search has ended
+pub has_ended : (vars : ℕ) (cs : List (List Literal)) (budget : ℕ) (s : Progress) (end : Turn) → s ≡ ended vars cs budget → end ≡ (run vars cs budget).state.end → HasEnded vars cs s end
+has_ended vars cs budget s end is e = record {
+  steps = budget + 1;
+  reached = is ∙ ap (λ b. turned (budget + 1) (opened vars cs b)) (sym (ap (λ (x : Progress). x.budget) is));
+  end_is = ap (λ (x : Progress). x.machine.state.end) is ∙ sym e;
+  is_end = λ more. run_ends vars cs budget (sym e ∙ more);
+}

@@ -11,9 +11,9 @@ use Rattle.search_learn.specs.declared.Turn.TheVariants as turn
 use Rattle.search_learn.specs.Machine.{Machine, run}
 use Rattle.lrat_lines.specs.Lines.{written}
 use Rattle.lrat_trim.specs.Trim.{trim}
-use Rattle.goal_formula.specs.Ends.{Made, TooDeep, TooMany}
-use Rattle.goal_formula.specs.Formula.{goal_edge, goal_end, goal_clauses, goal_variables}
-use Rattle.goal_formula.specs.Satisfying.{cone_bits, values_of}
+use Rattle.goal_alone.specs.Ends.{Made, TooDeep, TooMany}
+use Rattle.goal_alone.specs.Formula.{goal_edge, goal_end, goal_clauses, goal_variables}
+use Rattle.goal_alone.specs.Satisfying.{cone_bits, values_of}
 
 -- A certificate's text, values of the goal's variables, the steps spent, or why there are no clauses.
 pub data Answer : Type 0 where

@@ -1,46 +1,35 @@
 //! From a goal to its reply.
-ghost use Rattle.std.specs.Prelude.{◌≡◌, ◌≤◌, ◌^◌, ℕ, Bool, true, length, IfOk};
+ghost use Rattle.std.specs.Prelude.{◌≡◌, ◌≤◌, ◌^◌, ℕ, length, IfOk};
 ghost use Rattle.bv_expr.specs.Goal.{AreValues, Falsifies, IsValid};
 ghost use Rattle.bv_expr.specs.Propositional.{IsPropositional};
-ghost use Rattle.sat_form.specs.Truth.{HaveNoValues, satisfies};
 ghost use Rattle.tseitin.specs.Clauses.{AreConeOf};
 ghost use Rattle.lrat_lines.specs.Replay.{TextComesTo};
 ghost use Rattle.lrat_lines.specs.Replay.Verdict.{Accepted};
-ghost use Rattle.goal_formula.specs.Formula.{goal_clauses, goal_edge, goal_variables};
-ghost use Rattle.goal_formula.specs.Satisfying.{IsRefutation};
+ghost use Rattle.goal_alone.specs.Formula.{goal_clauses, goal_edge, goal_variables};
 ghost use Rattle.goal_alone.specs.Alone.{alone as answer, solved};
 ghost use Rattle.goal_alone.specs.Told.{IfFalse, IfProved, IsAnswer};
 
-use crate::certificate::certificate;
-use crate::counterexample::counterexample;
+use crate::formula::{Formula, FormulaStop, formula_of};
 use crate::reply::Reply;
+use crate::search_end::reply_of;
 use crate::solve::solve;
 use bv_expr::Goal;
-use goal_formula::{Formula, FormulaStop, formula_of};
-use search_learn::Turn;
 use std::alloc::{AllocError, Global};
 
-/// The reply to a goal that has clauses.
+/// The reply to a goal that has clauses, or want of memory for the search.
 fn searched(alloc: Global, goal: &Goal, formula: &Formula, budget: u64) -> Result<Reply, AllocError>
+    requires propositional { IsPropositional goal.now.hyps goal.now.concl }
     requires budget { budget ≤ 2 ^ 62 }
     requires cone { AreConeOf (goal_edge goal.now.hyps goal.now.concl) formula.now.cone.nodes.items formula.now.cone.root }
     requires clauses { formula.now.cnf.clauses ≡ goal_clauses goal.now.hyps goal.now.concl }
     requires vars { formula.now.cnf.vars ≡ goal_variables goal.now.hyps goal.now.concl }
-    requires falsified { (values : ℕ → Bool) → satisfies values formula.now.cnf.clauses ≡ true → IsRefutation goal.now.binders goal.now.hyps goal.now.concl (goal_edge goal.now.hyps goal.now.concl) values }
     ensures answer { IfOk result (λ reply. IsAnswer reply (solved goal.now.binders goal.now.hyps goal.now.concl budget)) }
-    ensures proved { IfOk result (λ reply. IfProved reply (λ _. HaveNoValues formula.now.cnf.clauses)) }
+    ensures proved { IfOk result (λ reply. IfProved reply (λ _. IsValid goal.now.binders goal.now.hyps goal.now.concl)) }
     ensures refuted { IfOk result (λ reply. IfFalse reply (λ values. AreValues goal.now.binders values × Falsifies goal.now.hyps goal.now.concl values)) }
-    ensures accepted { IfOk result (λ reply. IfProved reply (λ text. (most : ℕ) → length text ≤ most → TextComesTo formula.now.cnf.clauses most text Accepted)) }
+    ensures accepted { IfOk result (λ reply. IfProved reply (λ text. (most : ℕ) → length text ≤ most → TextComesTo (goal_clauses goal.now.hyps goal.now.concl) most text Accepted)) }
 {
     let (search, end) = solve(alloc, &formula.cnf, budget)?;
-    if let Some(values) = search.values() {
-        return Ok(Reply::False(counterexample(alloc, goal, &formula.cone, values)?));
-    }
-    match end {
-        Turn::Unsat => Ok(Reply::Proved(certificate(alloc, &search)?)),
-        Turn::Budget(spent) => Ok(Reply::Budget(spent)),
-        Turn::Sat | Turn::More => unreachable!(),
-    }
+    Ok(reply_of(alloc, goal, &formula.cone, &search, &end))
 }
 
 /// The reply to a goal: its clauses are searched with this budget of steps, on this thread.

@@ -9,8 +9,8 @@ use Rattle.bv_lines.specs.Statement.{Statement}
 use Rattle.lrat_lines.specs.Judge.{given}
 use Rattle.lrat_lines.specs.Replay.{Verdict, TextComesTo, lines_within}
 use Rattle.lrat_lines.proofs.Verdicts.{one_verdict}
-use Rattle.goal_formula.specs.Ends.{End, Made, TooDeep, TooMany}
-use Rattle.goal_formula.specs.Formula.{goal_clauses, goal_end}
+use Rattle.goal_alone.specs.Ends.{End, Made, TooDeep, TooMany}
+use Rattle.goal_alone.specs.Formula.{goal_clauses, goal_end}
 use Rattle.goal_alone.specs.Alone.{Answer, solved, alone}
 use Rattle.bvd_report.specs.Report.{Told, Proved, False, Budget, Deep, Large, OutOfMemory, Clauses, Accepted, Refused, NoEmptyClause, AbsentCertificate}
 use Rattle.goal_replies.specs.Decided.{IsDecidedAs}

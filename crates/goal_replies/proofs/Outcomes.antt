@@ -13,9 +13,9 @@ use Rattle.sat_form.specs.Truth.{HaveNoValues}
 use Rattle.cert_check.specs.Checked as of_certificate
 use Rattle.cert_check.specs.declared.checked.Checked.{Checked}
 use Rattle.cert_check.specs.declared.checked.Checked.TheVariants as checked
-use Rattle.goal_formula.specs.Ends.{Made}
-use Rattle.goal_formula.specs.Formula.{goal_clauses, goal_end}
-use Rattle.goal_formula.specs.Satisfying.{IsSatisfiable, IsFalsifiable}
+use Rattle.goal_alone.specs.Ends.{Made}
+use Rattle.goal_alone.specs.Formula.{goal_clauses, goal_end}
+use Rattle.goal_alone.specs.Satisfying.{IsSatisfiable, IsFalsifiable}
 use Rattle.goal_alone.specs.Alone.{Answer, alone}
 use Rattle.goal_replies.specs.Solved.{IsAnswered}
 use Rattle.goal_replies.specs.Checked.{IsCheckedAs}

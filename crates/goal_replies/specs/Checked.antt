@@ -6,8 +6,8 @@ use Rattle.bv_expr.specs.Goal.{IsValid}
 use Rattle.bv_lines.specs.Statement.{Statement}
 use Rattle.lrat_lines.specs.Replay.{Verdict}
 use Rattle.cert_check.specs.Checked.{IsReplayed, IsAbsent}
-use Rattle.goal_formula.specs.Ends.{Made, TooDeep, TooMany}
-use Rattle.goal_formula.specs.Formula.{goal_clauses, goal_end}
+use Rattle.goal_alone.specs.Ends.{Made, TooDeep, TooMany}
+use Rattle.goal_alone.specs.Formula.{goal_clauses, goal_end}
 use Rattle.bvd_report.specs.Report.{Told, Proved, False, Budget, Deep, Large, OutOfMemory, Clauses, Accepted, Refused, NoEmptyClause, AbsentCertificate}
 use Rattle.goal_replies.specs.Decided.{IsDecidedAs}
 

@@ -2,12 +2,12 @@
 use Rattle.std.specs.Prelude.{◌≡◌, ◌↔◌, List}
 use Rattle.bv_expr.specs.Term.{Term}
 use Rattle.sat_form.specs.Dimacs.{dimacs_text}
-use Rattle.goal_formula.specs.Ends.{Made, TooDeep, TooMany}
-use Rattle.goal_formula.specs.Formula.{goal_clauses, goal_end, goal_variables}
+use Rattle.goal_alone.specs.Ends.{Made, TooDeep, TooMany}
+use Rattle.goal_alone.specs.Formula.{goal_clauses, goal_end, goal_variables}
 use Rattle.bv_lines.specs.Statement.{Statement}
 use Rattle.bvd_report.specs.Report.{Told, Proved, False, Budget, Deep, Large, OutOfMemory, Clauses, Accepted, Refused, NoEmptyClause, AbsentCertificate}
 use Rattle.goal_replies.specs.Decided.{IsDecidedAs}
-use Rattle.goal_formula.specs.Satisfying.{IsSatisfiable, IsFalsifiable}
+use Rattle.goal_alone.specs.Satisfying.{IsSatisfiable, IsFalsifiable}
 
 -- What the clauses of these terms are told as, for a goal that is decided as these terms: the text of the clauses, which
 -- some values satisfy exactly where some values falsify the goal; or that the circuit is too deep or too large.

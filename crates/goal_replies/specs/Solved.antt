@@ -7,7 +7,7 @@ use Rattle.bv_lines.specs.Statement.{Statement}
 use Rattle.bv_print.specs.Values.{values_text}
 use Rattle.bvd_report.specs.Report.{Told, Proved, False, Budget, Deep, Large, OutOfMemory, Clauses, Accepted, Refused, NoEmptyClause, AbsentCertificate}
 use Rattle.lrat_lines.specs.Replay.{Verdict, TextComesTo}
-use Rattle.goal_formula.specs.Formula.{goal_clauses}
+use Rattle.goal_alone.specs.Formula.{goal_clauses}
 use Rattle.goal_alone.specs.Alone.{Answer, alone}
 use Rattle.goal_replies.specs.Decided.{IsDecidedAs}
 

@@ -12,7 +12,7 @@ use bv_expr::Goal;
 use bvd_host::keeper::Keeper;
 use bvd_report::told::Told;
 use cert_check::{Checked, DeviceFailed, check};
-use goal_formula::{FormulaStop, formula_of};
+use goal_alone::{FormulaStop, formula_of};
 use std::alloc::Global;
 
 /// What a certificate comes to, as it is told.

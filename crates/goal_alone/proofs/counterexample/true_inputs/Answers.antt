@@ -1,6 +1,6 @@
 use Rattle.std.proofs.Common.{◌<◌, ◌∙◌, ap, false, get_or, length, ◌+◌}
 use Rattle.std.specs.Prelude.{◌&&◌, ◌||◌}
-use Rattle.goal_formula.specs.Satisfying.{is_input}
+use Rattle.goal_alone.specs.Satisfying.{is_input}
 use Rattle.goal_alone.proofs.Sifting.{bits_more}
 use Rattle.goal_alone.proofs.counterexample.true_inputs.Goals as goal
 

@@ -1,6 +1,6 @@
 use Rattle.std.proofs.Common.{◌≡◌, ℕ, take}
 use Rattle.sat_form.specs.Truth.{value_of}
-use Rattle.goal_formula.specs.Satisfying.{node_bits}
+use Rattle.goal_alone.specs.Satisfying.{node_bits}
 use Rattle.goal_alone.specs.Inputs.{has}
 use Rattle.goal_alone.proofs.counterexample.true_inputs.Given as goal
 

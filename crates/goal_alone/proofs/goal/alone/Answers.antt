@@ -1,10 +1,7 @@
 use Rattle.std.proofs.Common.{refl, sym, subst}
-use Rattle.sat_form.specs.Truth.{HaveNoValues}
-use Rattle.bv_expr.specs.Goal.{IsValid}
 use Rattle.goal_alone.specs.Alone.{Answer}
 use Rattle.goal_alone.specs.Told.{IsAnswer}
 use Rattle.goal_alone.proofs.Ending.{where_made, where_deep, where_large}
-use Rattle.goal_alone.proofs.Telling.{map_proved, valid_without_values, accepted_for}
 use Rattle.goal_alone.proofs.goal.alone.Goals as goal
 
 pub returns-in-Ok-searched-clause-answer : goal.returns-in-Ok-searched-clause-answer
@@ -13,16 +10,6 @@ returns-in-Ok-searched-clause-answer c =
     let reply = c.in-Ok-searched.reply in
     let P : Answer → Type 0 = λ a. IsAnswer reply a in
     subst P (sym (where_made g.binders g.hyps g.concl c.args.budget c.in-Ok.ensures.made)) c.in-Ok-searched.ensures.answer
-
-pub returns-in-Ok-searched-clause-proved : goal.returns-in-Ok-searched-clause-proved
-returns-in-Ok-searched-clause-proved c =
-    let g = c.args.goal.now in
-    let cs = c.in-Ok.formula.cnf.clauses in
-    map_proved c.in-Ok-searched.reply (λ _. HaveNoValues cs) (λ _. IsValid g.binders g.hyps g.concl)
-    (λ _ none. valid_without_values g.binders g.hyps g.concl cs c.in-Ok.ensures.satisfiable none) c.in-Ok-searched.ensures.proved
-
-pub returns-in-Ok-searched-clause-accepted : goal.returns-in-Ok-searched-clause-accepted
-returns-in-Ok-searched-clause-accepted c = accepted_for c.in-Ok-searched.reply c.in-Ok.formula.cnf.clauses _ c.in-Ok.ensures.clauses c.in-Ok-searched.ensures.accepted
 
 pub returns-in-Err-Deep-clause-answer : goal.returns-in-Err-Deep-clause-answer
 returns-in-Err-Deep-clause-answer c =

@@ -1,6 +1,7 @@
 -- The goal's edge hangs on the truths of its variables alone, and so on their values.
-use Rattle.std.proofs.Common.{◌≡◌, ℕ, Bool, true, false, not, ◌&&◌, ◌||◌, List, [], ◌∷◌, refl, sym, ◌∙◌, ap, ap₂, Some}
+use Rattle.std.proofs.Common.{◌≡◌, ℕ, Bool, true, not, ◌&&◌, ◌||◌, List, [], ◌∷◌, refl, sym, ◌∙◌, ap, ap₂, Some}
 use Rattle.std.specs.Prelude.{All, slice_get, option_map}
+use Rattle.std.proofs.lemmas.Bool.{and_parts}
 use Rattle.std.proofs.lemmas.List.Elements.{All-head, All-tail}
 use Rattle.gate_shape.specs.Edge.{Edge, constant, invert, value}
 use Rattle.gate_shape.specs.Row.{◌>>=◌, along, both}
@@ -19,10 +20,6 @@ use Rattle.bv_expr.specs.Propositional.{is_not, is_connective, is_propositional}
 use Rattle.blast_goal.specs.Circuit.{unary_row, binary_row, circuit, and_hypothesis, all_hypotheses, and_not_conclusion, goal_row}
 use Rattle.blast_goal.specs.Values.{bits_of}
 use Rattle.blast_goal.proofs.Falsifying.{IsFit}
-
-both_true : (a b : Bool) → a && b ≡ true → (a ≡ true) × (b ≡ true)
-both_true true b h = (refl, h)
-both_true false b h = cc
 
 module _ (values : List Val) (bits : ℕ → ℕ → Bool) (agree : (k : ℕ) → option_map sort_of_value (slice_get values k) ≡ Some sort.Truth → bits_of values k 0 ≡ bits k 0) where
   abbrev Agrees : Edge → Type 0
@@ -51,10 +48,10 @@ module _ (values : List Val) (bits : ℕ → ℕ → Bool) (agree : (k : ℕ) �
   unfolding circuit is_propositional ◌>>=◌ value
   circuit_agrees (truth b) p h = refl
   circuit_agrees (truth_variable k) p h = agree k h
-  circuit_agrees (unary op x) p h = let q = both_true (is_not op) (is_propositional x) p in of_one op (circuit x).answer q.0 (circuit_agrees x q.1 h)
+  circuit_agrees (unary op x) p h = let q = and_parts (is_not op) (is_propositional x) p in of_one op (circuit x).answer q.0 (circuit_agrees x q.1 h)
   circuit_agrees (binary op x y) p h =
-      let q = both_true (is_connective op) (is_propositional x && is_propositional y) p in
-      let r = both_true (is_propositional x) (is_propositional y) q.1 in
+      let q = and_parts (is_connective op) (is_propositional x && is_propositional y) p in
+      let r = and_parts (is_propositional x) (is_propositional y) q.1 in
       of_two op (circuit x).answer (circuit y).answer q.0 (circuit_agrees x r.0 h.0) (circuit_agrees y r.1 h.1)
   circuit_agrees (vector v) p h = cc
   circuit_agrees (variable k w) p h = cc

@@ -1,10 +1,13 @@
 -- The values that are read off bits are values of the goal's variables, and truths have their bits.
-use Rattle.std.proofs.Common.{◌≡◌, ℕ, zero, suc, ◌+◌, ◌*◌, ◌^◌, ◌<◌, Bool, true, false, ◌&&◌, List, [], ◌∷◌, map, nat_le, length, slice_index_or, refl, ◌∙◌, ap, ap₂, arith, Some}
+use Rattle.std.proofs.Common.{◌≡◌, ℕ, zero, suc, ◌+◌, ◌^◌, ◌<◌, Bool, true, false, List, [], ◌∷◌, map, nat_le, length, slice_index_or, refl, ◌∙◌, ap, ap₂, arith, Some}
 use Rattle.std.specs.Prelude.{All, IsTrue, slice_get, option_map}
 use Rattle.std.specs.List.{range_with_len}
+use Rattle.std.proofs.Math.Bool.{and-true}
+use Rattle.std.proofs.lemmas.Bool.{and_parts}
 use Rattle.std.proofs.lemmas.Grind.{common_steps}
 use Rattle.std.proofs.lemmas.List.FromFn.{length-map-range_with_len}
 use Rattle.std.proofs.lemmas.List.Elements.{All-nil, All-cons, All-head, All-tail}
+use Rattle.gate_shape.proofs.Numbers.{pow_more}
 use Rattle.bv_value.specs.Bits.{number_of}
 use Rattle.bv_expr.specs.declared.ops.Sort.{Sort}
 use Rattle.bv_expr.specs.declared.ops.Sort.TheVariants as sort
@@ -12,10 +15,7 @@ use Rattle.bv_expr.specs.declared.ops.Val.TheVariants.{Truth}
 use Rattle.bv_expr.specs.Meaning.{sort_of_value}
 use Rattle.bv_expr.specs.Goal.{Binders, AreValues, IsValue, is_sort, sorts_of}
 use Rattle.blast_goal.specs.Values.{bit_of, bits_of}
-use Rattle.goal_formula.specs.Satisfying.{value_with, values_from, values_of}
-
-pow_more : (n : ℕ) → 2 ^ suc n ≡ 2 * 2 ^ n
-pow_more n = grind (arith, common_steps)
+use Rattle.goal_alone.specs.Satisfying.{value_with, values_from, values_of}
 
 number_below : (bs : List Bool) → number_of bs < 2 ^ length bs
 number_below [] = omega arith
@@ -25,10 +25,6 @@ number_below (false ∷ bs) = let l = number_below bs in omega (arith, pow_more 
 pub bits_below : (bits : ℕ → Bool) (w : ℕ) → number_of (map bits (range_with_len 0 w)) < 2 ^ w
 bits_below bits w = rw (length-map-range_with_len bits 0 w) at (number_below (map bits (range_with_len 0 w)))
 
-both_true : (a b : Bool) → a && b ≡ true → (a ≡ true) × (b ≡ true)
-both_true true b h = (refl, h)
-both_true false b h = cc
-
 sort_same : (s : Sort) (bits : ℕ → Bool) → sort_of_value (value_with s bits) ≡ s
 sort_same sort.Truth bits = refl
 sort_same (sort.Vector w) bits = refl
@@ -36,7 +32,7 @@ sort_same (sort.Vector w) bits = refl
 value_fits : (s : Sort) (bits : ℕ → Bool) → IsTrue (is_sort s) → IsValue (value_with s bits)
 value_fits sort.Truth bits h = tt
 value_fits (sort.Vector w) bits h =
-    let p = both_true (nat_le 1 w) (nat_le w 128) h in
+    let p = and_parts (nat_le 1 w) (nat_le w 128) h in
     let low = p.0 in
     let high = p.1 in
     record { positive = grind (arith, common_steps); at_most_128 = grind (arith, common_steps); below = bits_below bits w }
@@ -54,12 +50,8 @@ values_fit k (b ∷ bs) bits h =
 pub are_values : (binders : Binders) (bits : ℕ → ℕ → Bool) → All (λ b. IsTrue (is_sort b.1)) binders → AreValues binders (values_of binders bits)
 are_values binders bits h = record { of_the_sorts = sorts_same 0 binders bits; are_values = values_fit 0 binders bits h }
 
-and_true : (b : Bool) → b && true ≡ b
-and_true true = refl
-and_true false = refl
-
 truth_bit : (s : Sort) (bits : ℕ → Bool) → Some (sort_of_value (value_with s bits)) ≡ Some sort.Truth → bit_of (value_with s bits) 0 ≡ bits 0
-truth_bit sort.Truth bits h = and_true (bits 0)
+truth_bit sort.Truth bits h = and-true (bits 0)
 truth_bit (sort.Vector w) bits h = cc
 
 truth_bits : (m : ℕ) (binders : Binders) (bits : ℕ → ℕ → Bool) (k : ℕ) → option_map sort_of_value (slice_get (values_from m binders bits) k) ≡ Some sort.Truth

@@ -1,8 +1,8 @@
 use Rattle.std.proofs.Common.{◌≡◌, ◌+◌, length}
 use Rattle.gate_shape.specs.Listed.{listed}
 use Rattle.cone_walk.specs.Walk.{Follows, Replies, root_of, was_asked}
-use Rattle.goal_formula.specs.Unasked.{unasked}
-use Rattle.goal_formula.proofs.cone.cone_of.Given as goal
+use Rattle.goal_alone.specs.Unasked.{unasked}
+use Rattle.goal_alone.proofs.cone.cone_of.Given as goal
 
 abbrev pub invariant-asks : goal.invariant-asks
 invariant-asks l = record {

@@ -1,6 +1,6 @@
 use Rattle.gate_shape.specs.Listed.{listed}
-use Rattle.goal_formula.proofs.Asking.{asks_fewer, replies_none}
-use Rattle.goal_formula.proofs.cone.cone_of.Goals as goal
+use Rattle.goal_alone.proofs.Asking.{asks_fewer, replies_none}
+use Rattle.goal_alone.proofs.cone.cone_of.Goals as goal
 
 pub asks-init : goal.asks-init
 asks-init c = record {

@@ -5,7 +5,7 @@ use Rattle.bv_expr.specs.Term.{Term}
 use Rattle.sat_form.specs.Literals.{Literal}
 use Rattle.tseitin.specs.Clauses.{clauses, variables}
 use Rattle.blast_goal.specs.Circuit.{goal_row}
-use Rattle.goal_formula.specs.Ends.{End, end_of}
+use Rattle.goal_alone.specs.Ends.{End, end_of}
 
 -- the most different gates of a goal
 abbrev pub most_gates : ℕ

@@ -1,6 +1,8 @@
 -- Each input stands once in the order of an edge, so that its bit is the value of its variable.
-use Rattle.std.proofs.Common.{◌≡◌, ℕ, zero, suc, ◌+◌, ◌<◌, Bool, true, false, ◌&&◌, ◌||◌, List, [], ◌∷◌, ◌++◌, map, length, slice_index_or, refl, sym, ◌∙◌, arith}
+use Rattle.std.proofs.Common.{◌≡◌, ℕ, zero, suc, ◌+◌, ◌<◌, Bool, true, false, ◌&&◌, List, [], ◌∷◌, ◌++◌, map, length, slice_index_or, refl, sym, ◌∙◌, arith}
 use Rattle.std.specs.List.{list_any, enumerate_from}
+use Rattle.std.proofs.lemmas.Bool.{or_parts}
+use Rattle.std.proofs.Math.Bool.{or-false, or-true}
 use Rattle.gate_shape.specs.Edge.{Edge, constant, input, gate, same}
 use Rattle.gate_shape.proofs.Sameness.{same-eq, same-self}
 use Rattle.cone_walk.specs.Order.{order, completions, firsts, listed_edge}
@@ -8,19 +10,7 @@ use Rattle.cone_walk.specs.Cone.{cone_node, cone_nodes}
 use Rattle.cone_walk.proofs.Trees.{by_bool, listed-append}
 use Rattle.tseitin.specs.Clauses.{Extends}
 use Rattle.tseitin.proofs.Law.{order_kinds, listed_at}
-use Rattle.goal_formula.specs.Satisfying.{is_input, cone_bits}
-
-both_false : (a b : Bool) → a || b ≡ false → (a ≡ false) × (b ≡ false)
-both_false true b h = cc
-both_false false b h = (refl, h)
-
-or_false : (b : Bool) → b || false ≡ b
-or_false true = refl
-or_false false = refl
-
-or_true : (b : Bool) → b || true ≡ true
-or_true true = refl
-or_true false = refl
+use Rattle.goal_alone.specs.Satisfying.{is_input, cone_bits}
 
 same_other : (x y : Edge) → same x y ≡ false → same y x ≡ false
 same_other x y h = by_bool (same y x) (λ s. let t : same x y ≡ true = rw (same-eq y x s) (same-self x) in cc) (λ n. n)
@@ -33,7 +23,7 @@ Apart (x ∷ xs) = (listed_edge x xs ≡ false) × Apart xs
 apart_more : (x : Edge) (done : List Edge) → Apart done → listed_edge x done ≡ false → Apart (done ++ x ∷ [])
 apart_more x [] a h = (refl, tt)
 apart_more x (y ∷ ys) a h =
-    let p = both_false (same x y) (listed_edge x ys) h in
+    let p = or_parts (same x y) (listed_edge x ys) h in
     let q : same y x ≡ false = same_other x y p.0 in
     (listed-append y ys (x ∷ []) ∙ rw (a.0, q) refl, apart_more x ys a.1 p.1)
 
@@ -58,7 +48,7 @@ ArePlain (x ∷ xs) = IsPlain x × ArePlain xs
 
 are_plain : (xs : List Edge) → ((x : Edge) → listed_edge x xs ≡ true → IsPlain x) → ArePlain xs
 are_plain [] h = tt
-are_plain (x ∷ xs) h = (h x (rw (same-self x) refl), are_plain xs (λ y l. h y (rw l (or_true (same y x)))))
+are_plain (x ∷ xs) h = (h x (rw (same-self x) refl), are_plain xs (λ y l. h y (rw l (or-true (same y x)))))
 
 plain_order : (e : Edge) → ArePlain (order e)
 plain_order e = are_plain (order e) (λ x h. order_kinds e x h (λ k j q. let P : Edge → Type 0 = IsPlain in rw q refl) (λ l r q. rw q tt))
@@ -78,7 +68,7 @@ module _ (values : ℕ → Bool) (ord : List Edge) (k j : ℕ) where
   not_found : (v : ℕ) (xs : List Edge) → ArePlain xs → listed_edge (input false k j) xs ≡ false → found v xs ≡ false
   not_found v [] p h = refl
   not_found v (x ∷ xs) p h =
-      let q = both_false (same (input false k j) x) (listed_edge (input false k j) xs) h in
+      let q = or_parts (same (input false k j) x) (listed_edge (input false k j) xs) h in
       let r : is_input k j (cone_node ord x) ≡ false = input_of ord x k j p.0 ∙ same_other (input false k j) x q.0 in
       rw (r, not_found (v + 1) xs p.1 q.1) refl
 
@@ -89,7 +79,7 @@ module _ (values : ℕ → Bool) (ord : List Edge) (k j : ℕ) where
       let r : is_input k j (cone_node ord x) ≡ true = input_of ord x k j p.0 ∙ rw e (same-self (input false k j)) in
       let n : found (v + 1) xs ≡ false = not_found (v + 1) xs p.1 (rw e at a.0) in
       let z : 0 + v ≡ v = omega arith in
-      rw (z, r, n) (sym (or_false (values v)))
+      rw (z, r, n) (sym (or-false (values v)))
   found_at v (x ∷ xs) (suc i) p a l e =
       let inside : i < length xs = omega arith in
       let there : listed_edge (input false k j) xs ≡ true = rw e at (listed_at xs i (constant false) inside) in

@@ -4,10 +4,10 @@ use Rattle.gate_shape.specs.Literal.{Literal}
 use Rattle.gate_shape.specs.Builds.{Builds, Stands}
 use Rattle.gate_shape.specs.Listed.{listed, note_new}
 use Rattle.gate_shape.specs.declared.builder.GateStop.{GateStop}
-use Rattle.goal_formula.specs.declared.formula.FormulaStop.TheVariants as stop
+use Rattle.goal_alone.specs.declared.formula.FormulaStop.TheVariants as stop
 use Rattle.blast_goal.specs.Circuit.{goal_row}
-use Rattle.goal_formula.proofs.Ended.{ends_made, ends_deep, ends_full}
-use Rattle.goal_formula.proofs.formula.circuit.Goals as goal
+use Rattle.goal_alone.proofs.Ended.{ends_made, ends_deep, ends_full}
+use Rattle.goal_alone.proofs.formula.circuit.Goals as goal
 
 pub returns-in-Ok-clause-made : goal.returns-in-Ok-clause-made
 returns-in-Ok-clause-made c =

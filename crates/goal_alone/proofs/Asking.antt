@@ -8,8 +8,8 @@ use Rattle.gate_shape.specs.Listed.{Listed, listed}
 use Rattle.cone_walk.specs.declared.walk.Walk.{Walk}
 use Rattle.cone_walk.specs.declared.walk.Stage.{Stage}
 use Rattle.cone_walk.specs.Walk.{AsksFor, IsBegun, IsReply, Replies, was_asked}
-use Rattle.goal_formula.specs.Unasked.{unasked}
-use Rattle.goal_formula.proofs.Counting.{one_less}
+use Rattle.goal_alone.specs.Unasked.{unasked}
+use Rattle.goal_alone.proofs.Counting.{one_less}
 
 -- nothing is handed in at first
 pub replies_none : (m : Meaning) (root : Literal) (w : Walk) → IsBegun root w → Replies m w None

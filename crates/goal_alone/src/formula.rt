@@ -2,11 +2,11 @@
 ghost use Rattle.std.specs.Prelude.{◌≡◌, ◌↔◌, ℕ, Bool, true, IfOk, OnOk, IsErrOf};
 ghost use Rattle.bv_expr.specs.Propositional.{IsPropositional};
 ghost use Rattle.tseitin.specs.Clauses.{AreConeOf};
-ghost use Rattle.goal_formula.specs.Ends.{Made, TooDeep, TooMany};
+ghost use Rattle.goal_alone.specs.Ends.{Made, TooDeep, TooMany};
 ghost use Rattle.gate_shape.specs.Builds.{OneEach, Stands};
 ghost use Rattle.gate_shape.specs.Listed.{listed};
-ghost use Rattle.goal_formula.specs.Formula.{goal_clauses, goal_edge, goal_end, goal_variables};
-ghost use Rattle.goal_formula.specs.Satisfying.{IsFalsifiable, IsRefutation, IsSatisfiable};
+ghost use Rattle.goal_alone.specs.Formula.{goal_clauses, goal_edge, goal_end, goal_variables};
+ghost use Rattle.goal_alone.specs.Satisfying.{IsFalsifiable, IsRefutation, IsSatisfiable};
 ghost use Rattle.sat_form.specs.Truth.{satisfies};
 
 use crate::cone::cone_of;
@@ -41,7 +41,7 @@ pub enum FormulaStop {
 
 impl From<AllocError> for FormulaStop {
     ghost use Rattle.std.specs.Prelude.{◌≡◌};
-    ghost use Rattle.goal_formula.specs.declared.formula.FormulaStop.TheVariants.{Memory};
+    ghost use Rattle.goal_alone.specs.declared.formula.FormulaStop.TheVariants.{Memory};
 
     ghost from_gives = { λ error stop. stop ≡ Memory error };
 

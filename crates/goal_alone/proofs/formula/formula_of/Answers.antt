@@ -1,7 +1,7 @@
 use Rattle.tseitin.specs.Clauses.{AreConeOf}
-use Rattle.goal_formula.specs.Formula.{goal_edge}
-use Rattle.goal_formula.proofs.Satisfied.{satisfiable_where_falsifiable, falsified_at}
-use Rattle.goal_formula.proofs.formula.formula_of.Goals as goal
+use Rattle.goal_alone.specs.Formula.{goal_edge}
+use Rattle.goal_alone.proofs.Satisfied.{satisfiable_where_falsifiable, falsified_at}
+use Rattle.goal_alone.proofs.formula.formula_of.Goals as goal
 
 pub returns-clause-satisfiable : goal.returns-clause-satisfiable
 returns-clause-satisfiable c =

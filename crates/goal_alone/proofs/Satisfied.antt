@@ -13,11 +13,11 @@ use Rattle.blast_goal.specs.Values.{bits_of}
 use Rattle.blast_goal.proofs.Falsifying.{edge-value}
 use Rattle.tseitin.specs.Clauses.{node_values}
 use Rattle.tseitin.proofs.Law.{satisfiable_exactly}
-use Rattle.goal_formula.specs.Formula.{goal_edge, goal_clauses}
-use Rattle.goal_formula.specs.Satisfying.{IsSatisfiable, IsFalsifiable, IsRefutation, cone_bits, values_of}
-use Rattle.goal_formula.proofs.Once.{cone_extends}
-use Rattle.goal_formula.proofs.Reading.{are_values, same_truth}
-use Rattle.goal_formula.proofs.Agreeing.{goal_agrees}
+use Rattle.goal_alone.specs.Formula.{goal_edge, goal_clauses}
+use Rattle.goal_alone.specs.Satisfying.{IsSatisfiable, IsFalsifiable, IsRefutation, cone_bits, values_of}
+use Rattle.goal_alone.proofs.Once.{cone_extends}
+use Rattle.goal_alone.proofs.Reading.{are_values, same_truth}
+use Rattle.goal_alone.proofs.Agreeing.{goal_agrees}
 
 module _ (binders : Binders) (hyps : List Term) (concl : Term) (goal : IsGoal binders hyps concl) (plain : IsPropositional hyps concl) where
   -- the edge's value is that of the values that are read off bits

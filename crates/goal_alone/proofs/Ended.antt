@@ -9,8 +9,8 @@ use Rattle.gate_shape.specs.declared.builder.GateStop.TheVariants.{Deep, Full}
 use Rattle.gate_shape.specs.Builds.{Builds, Stands, NotDeep, TooDeep, HasGate, noted_all}
 use Rattle.gate_shape.specs.Listed.{Listed, listed, holding, gates_of, grow, has_gate, note_new}
 use Rattle.gate_shape.proofs.Listing.{has_gate-found, note_known, note_unknown, note_refused}
-use Rattle.goal_formula.specs.Ends as ends
-use Rattle.goal_formula.specs.Ends.{End, end_of}
+use Rattle.goal_alone.specs.Ends as ends
+use Rattle.goal_alone.specs.Ends.{End, end_of}
 
 step_by : (limit : ℕ) (kept : List Gate) (g : Gate) (gs : List Gate) → (gate_level g ≡ 262144 → ⊥) → length (note_new kept g true) ≤ limit
     → (a : Bool) → nat_eq (gate_level g) 262144 ≡ a → (b : Bool) → has_gate kept g ≡ b → (c : Bool) → nat_lt (length kept) limit ≡ c

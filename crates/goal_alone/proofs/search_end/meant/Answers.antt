@@ -1,0 +1,70 @@
+use Rattle.std.proofs.Common.{◌∙◌, List, length, sym, ap, subst, inl, inr}
+use Rattle.sat_form.specs.Literals.{Literal}
+use Rattle.sat_form.specs.Truth.{satisfies, value_of}
+use Rattle.lrat_lines.specs.Replay.{TextComesTo}
+use Rattle.lrat_lines.specs.Replay.Verdict.{Accepted}
+use Rattle.lrat_lines.proofs.Refutes.{checks_refutes}
+use Rattle.lrat_lines.proofs.Verdicts.{checked_text_is_accepted}
+use Rattle.lrat_trim.specs.Trim.{trim}
+use Rattle.cdcl_solver.specs.Progress.{Progress}
+use Rattle.goal_alone.specs.Formula.{goal_edge}
+use Rattle.goal_alone.proofs.Ending.{clauses_are, whole, at_sat, at_unsat, at_budget, enough, refutes}
+use Rattle.goal_alone.proofs.Satisfied.{falsified, satisfiable_where_falsifiable}
+use Rattle.goal_alone.proofs.Telling.{valid_without_values}
+use Rattle.goal_alone.proofs.search_end.meant.Goals as goal
+
+pub counterexample-requires : goal.counterexample-requires
+counterexample-requires c =
+    let g = c.args.goal.now in
+    enough (goal_edge g.hyps g.concl) c.args.cone.now.nodes.items c.args.search.now.vars (length c.in-Some.values.now) c.requires.cone.nodes_are
+    (ap (λ (x : Progress). x.vars) c.requires.ended.reached) c.in-Some.ensures.size
+
+pub returns-in-Some-clause-answer : goal.returns-in-Some-clause-answer
+returns-in-Some-clause-answer c =
+    let g = c.args.goal.now in
+    at_sat g.binders g.hyps g.concl c.args.search.now c.args.end.now c.requires.ended c.args.cone.now.nodes.items c.in-Some.values.now c.in_ok-counterexample.field-0.items
+    (sym c.requires.ended.end_is ∙ c.in-Some.ensures.solved.1) c.requires.cone.nodes_are c.in-Some.ensures.values c.in_ok-counterexample.ensures
+
+pub returns-in-Some-clause-refuted : goal.returns-in-Some-clause-refuted
+returns-in-Some-clause-refuted c =
+    let g = c.args.goal.now in
+    let values = value_of c.in-Some.values.now in
+    let same = clauses_are g.binders g.hyps g.concl c.args.search.now c.args.end.now c.requires.ended in
+    refutes g.binders g.hyps g.concl (goal_edge g.hyps g.concl) c.args.cone.now.nodes.items values c.in_ok-counterexample.field-0.items c.requires.cone.nodes_are c.in_ok-counterexample.ensures
+    (falsified g.binders g.hyps g.concl g.fits c.requires.propositional values (sym (ap (satisfies values) same) ∙ c.in-Some.ensures.satisfied))
+
+pub returns-in_ok-certificate-in-Unsat-clause-answer : goal.returns-in_ok-certificate-in-Unsat-clause-answer
+returns-in_ok-certificate-in-Unsat-clause-answer c =
+    let g = c.args.goal.now in
+    at_unsat g.binders g.hyps g.concl c.args.search.now c.args.end.now c.requires.ended c.in_ok-certificate-in-Unsat.field-0.items c.in-Unsat.is c.in_ok-certificate-in-Unsat.ensures.text
+
+pub returns-in_ok-certificate-in-Unsat-clause-proved : goal.returns-in_ok-certificate-in-Unsat-clause-proved
+returns-in_ok-certificate-in-Unsat-clause-proved c =
+    let g = c.args.goal.now in
+    let s = c.args.search.now in
+    let same = clauses_are g.binders g.hyps g.concl s c.args.end.now c.requires.ended in
+    valid_without_values g.binders g.hyps g.concl s.clauses (satisfiable_where_falsifiable g.binders g.hyps g.concl g.fits c.requires.propositional s.clauses same)
+    (checks_refutes s.clauses (trim (length s.clauses) s.machine.log) c.in_ok-certificate-in-Unsat.ensures.checks)
+
+pub returns-in_ok-certificate-in-Unsat-clause-accepted : goal.returns-in_ok-certificate-in-Unsat-clause-accepted
+returns-in_ok-certificate-in-Unsat-clause-accepted c = λ most fits.
+    let g = c.args.goal.now in
+    let s = c.args.search.now in
+    let text = c.in_ok-certificate-in-Unsat.field-0.items in
+    let lines = trim (length s.clauses) s.machine.log in
+    subst (λ (cs : List (List Literal)). TextComesTo cs most text Accepted) (clauses_are g.binders g.hyps g.concl s c.args.end.now c.requires.ended)
+    (checked_text_is_accepted s.clauses most text lines fits c.in_ok-certificate-in-Unsat.ensures.lines c.in_ok-certificate-in-Unsat.ensures.checks)
+
+pub returns-in-Budget-clause-answer : goal.returns-in-Budget-clause-answer
+returns-in-Budget-clause-answer c =
+    let g = c.args.goal.now in
+    at_budget g.binders g.hyps g.concl c.args.search.now c.args.end.now c.requires.ended c.in-Budget.spent c.in-Budget.is
+
+pub unreachable-requires : goal.unreachable-requires
+unreachable-requires c =
+    let g = c.args.goal.now in
+    let whole_one = whole g.binders g.hyps g.concl c.args.search.now c.args.end.now c.requires.ended in
+    elim c.in-Sat.is [
+      | inl sat ↦ c.in_default.ensures.before whole_one (c.requires.ended.end_is ∙ sat)
+      | inr more ↦ c.requires.ended.is_end more
+    ]

@@ -1,8 +1,0 @@
-pub mod Ended
-pub mod Counting
-pub mod Asking
-mod Once
-pub mod Reading
-mod Agreeing
-pub mod Satisfied
-mod Rows

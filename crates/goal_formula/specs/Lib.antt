@@ -1,4 +1,0 @@
-pub mod Ends
-pub mod Formula
-pub mod Satisfying
-pub mod Unasked
