@@ -8,14 +8,20 @@ use Rattle.bvd_host.specs.declared.keeper.KeepStop.TheVariants.{Absent, Failed}
 abbrev pub Rose : ℕ → ℕ → Type 0
 Rose before now = min (before + 1) (2 ^ 64 - 1) ≤ now
 
--- no count falls; the first error comes only where the count of faults rose, and the second one leaves that count
-pub record HasCauses {T E : Type 0} (failure absence : E) (faults_before faults_now missing_before missing_now : ℕ) (result : Result T E) : Type 0 where
-  pub faults : faults_before ≤ faults_now
-  pub missing : missing_before ≤ missing_now
-  pub failed : IsErrOf result failure → Rose faults_before faults_now
-  pub absent : IsErrOf result absence → faults_now ≡ faults_before
+-- this error alone raises the count in a call, by one; where the count stands at its end, it may stay there
+pub record HasCause {T E : Type 0} (stop : E) (before now : ℕ) (result : Result T E) : Type 0 where
+  pub later : before ≤ now
+  pub once : now ≤ before + 1
+  pub failed : IsErrOf result stop → Rose before now
+  pub spared : ¬ (IsErrOf result stop) → now ≡ before
 
--- no count falls; `Failed` comes only where the count of faults rose, and `Absent` leaves that count
+-- the first error alone raises the count of faults, and the second one alone may raise that of missing files
+pub record HasCauses {T E : Type 0} (failure absence : E) (faults_before faults_now missing_before missing_now : ℕ) (result : Result T E) : Type 0 where
+  pub faults : HasCause failure faults_before faults_now result
+  pub missing : missing_before ≤ missing_now
+  pub found : ¬ (IsErrOf result absence) → missing_now ≡ missing_before
+
+-- the same of a keeper's `Failed` and `Absent`
 abbrev pub KeeperCauses : {T : Type 0} → (faults_before faults_now missing_before missing_now : ℕ) → Result T KeepStop → Type 0
 KeeperCauses faults_before faults_now missing_before missing_now result = HasCauses Failed Absent faults_before faults_now missing_before missing_now result
 
@@ -27,12 +33,3 @@ ComesExactlyAbsent absence (Some files) name untold result = (IsErrOf result abs
 -- the same of a keeper's `Absent`
 abbrev pub AbsentExactly : {T : Type 0} → Option Files → List ℕ → Type 0 → Result T KeepStop → Type 0
 AbsentExactly files name untold result = ComesExactlyAbsent Absent files name untold result
-
--- no count falls, and this error comes only where the count rose
-pub record HasCause {T E : Type 0} (stop : E) (before now : ℕ) (result : Result T E) : Type 0 where
-  pub later : before ≤ now
-  pub failed : IsErrOf result stop → Rose before now
-
--- every answer but this error leaves the count
-abbrev pub LeavesUnlessFailed : {T E : Type 0} → E → (before now : ℕ) → Result T E → Type 0
-LeavesUnlessFailed stop before now result = ¬ (IsErrOf result stop) → now ≡ before

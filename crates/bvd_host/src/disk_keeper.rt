@@ -2,7 +2,7 @@
 //! output's are the whole edge at which the program trusts its surroundings.
 ghost use Rattle.std.specs.Prelude.{◌≡◌, ◌≤◌, None, [], length, take, option_map, IfOk, OnOk, OnErr, IsErrOf};
 ghost use Rattle.bvd_host.specs.Files.{with_file, with_more, IsTaken};
-ghost use Rattle.bvd_host.specs.Causes.{Rose, KeeperCauses, AbsentExactly, LeavesUnlessFailed};
+ghost use Rattle.bvd_host.specs.Causes.{Rose, KeeperCauses, AbsentExactly};
 ghost use Rattle.bvd_host.specs.Devices.{KeeperCounts};
 
 use crate::keeper::{KeepStop, Keeper};
@@ -77,8 +77,6 @@ impl<'a, R: Files> Keeper for DiskKeeper<'a, R> {
     fn read_at(&mut self, name: &str, from: u64, buf: &mut [u8]) -> Result<usize, KeepStop>
         ensures count { IfOk result (λ n. n ≤ length buf.new) }
         ensures absent { AbsentExactly None name.now ⊥ result }
-        ensures kept { OnOk result (⟦<DiskKeeper<'a, R> as Keeper>⟧.faults self.new ≡ ⟦<DiskKeeper<'a, R> as Keeper>⟧.faults self.old) }
-        ensures spared { LeavesUnlessFailed KeepStop.Failed (⟦<DiskKeeper<'a, R> as Keeper>⟧.faults self.old) (⟦<DiskKeeper<'a, R> as Keeper>⟧.faults self.new) result }
         ensures cause { KeeperCauses (⟦<DiskKeeper<'a, R> as Keeper>⟧.faults self.old) (⟦<DiskKeeper<'a, R> as Keeper>⟧.faults self.new) (⟦<DiskKeeper<'a, R> as Keeper>⟧.missing self.old) (⟦<DiskKeeper<'a, R> as Keeper>⟧.missing self.new) result }
         ensures counts { KeeperCounts (⟦<DiskKeeper<'a, R> as Keeper>⟧.faults self.old) (⟦<DiskKeeper<'a, R> as Keeper>⟧.faults self.new) (⟦<DiskKeeper<'a, R> as Keeper>⟧.missing self.old) (⟦<DiskKeeper<'a, R> as Keeper>⟧.missing self.new) result }
     {

@@ -2,7 +2,7 @@
 //! equation between maps, which says what changes and that nothing else does.
 ghost use Rattle.std.specs.Prelude.{◌≡◌, ℕ, ◌≤◌, length, take, drop, Option, Some, option_map, IfSome, IfOk, OnOk, OnErr, IsErrOf, []};
 ghost use Rattle.bvd_host.specs.Files.{Files, file_at, with_file, with_more, Copies, IsTaken};
-ghost use Rattle.bvd_host.specs.Causes.{Rose, KeeperCauses, AbsentExactly, LeavesUnlessFailed};
+ghost use Rattle.bvd_host.specs.Causes.{Rose, KeeperCauses, AbsentExactly};
 
 use std::alloc::AllocError;
 use thiserror::Error;
@@ -52,8 +52,6 @@ pub trait Keeper {
         ensures bytes { IfSome (files self.old) (λ f. IfOk result (λ n. IfSome (file_at f name.now) (λ content. Copies content from n buf.new))) }
         ensures files { files self.new ≡ files self.old }
         ensures absent { AbsentExactly (files self.old) name.now ⊥ result }
-        ensures kept { OnOk result (faults self.new ≡ faults self.old) }
-        ensures spared { LeavesUnlessFailed KeepStop.Failed (faults self.old) (faults self.new) result }
         ensures cause { KeeperCauses (faults self.old) (faults self.new) (missing self.old) (missing self.new) result };
 
     /// Makes the name stand for no bytes, whether it was there or not. Never `Absent`.

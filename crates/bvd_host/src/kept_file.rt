@@ -4,7 +4,7 @@ ghost use Rattle.std.specs.Prelude.{◌≡◌, ◌≤◌, ◌+◌, ◌-◌, leng
 ghost use Rattle.std.specs.Option.{ForSome};
 ghost use Rattle.bvd_host.specs.Files.{file_at};
 ghost use Rattle.bvd_host.specs.Given.{Gives, left_at};
-ghost use Rattle.bvd_host.specs.Causes.{HasCause, LeavesUnlessFailed};
+ghost use Rattle.bvd_host.specs.Causes.{HasCause};
 
 use crate::keeper::{KeepStop, Keeper};
 use crate::source::{Source, SourceStop};
@@ -55,9 +55,7 @@ fn read_more<K: Keeper>(
     ensures count { IfOk result (λ n. (n ≤ length buf.new) × (n ≤ size - at)) }
     ensures bytes { IfOk result (λ n. Gives (left_at name.now at (K.files keeper.old)) (left_at name.now (at + n) (K.files keeper.old)) n buf.new) }
     ensures files { K.files keeper.new ≡ K.files keeper.old }
-    ensures missing { K.missing keeper.old ≤ K.missing keeper.new }
-    ensures kept { OnOk result (K.faults keeper.new ≡ K.faults keeper.old) }
-    ensures spared { LeavesUnlessFailed SourceStop.Failed (K.faults keeper.old) (K.faults keeper.new) result }
+    ensures missing { K.missing keeper.new ≡ K.missing keeper.old }
     ensures cause { HasCause SourceStop.Failed (K.faults keeper.old) (K.faults keeper.new) result }
 {
     let most = (size - at).min(buf.len() as u64) as usize;

@@ -2,7 +2,7 @@
 ghost use Rattle.std.specs.Prelude.{◌≡◌, ◌≤◌, ◌-◌, min, [], length, take, option_map, Some, None, IfSome, IfOk, IsOk, IsSome, OnOk, OnErr, IsErrOf, false};
 ghost use Rattle.bvd_host.specs.Listed.{listed};
 ghost use Rattle.bvd_host.specs.Files.{file_at, with_file, with_more, Copies, IsTaken};
-ghost use Rattle.bvd_host.specs.Causes.{KeeperCauses, AbsentExactly, LeavesUnlessFailed};
+ghost use Rattle.bvd_host.specs.Causes.{KeeperCauses, AbsentExactly};
 ghost use Rattle.bvd_host.specs.Calls.{no_calls, next_call, is_failing, faults_after, FailsExactly};
 ghost use Rattle.bvd_host.specs.Kept.{kept_files, read_calls, write_calls, kept_faults};
 
@@ -116,8 +116,6 @@ impl Keeper for MapKeeper {
         ensures full { IfOk result (λ n. IfSome (file_at (kept_files self.old) name.now) (λ content. n ≡ min (length content - from) (length buf.new))) }
         ensures files { kept_files self.new ≡ kept_files self.old }
         ensures absent { AbsentExactly (Some (kept_files self.old)) name.now ⊥ result }
-        ensures kept { OnOk result (kept_faults self.new ≡ kept_faults self.old) }
-        ensures spared { LeavesUnlessFailed KeepStop.Failed (kept_faults self.old) (kept_faults self.new) result }
         ensures cause { KeeperCauses (kept_faults self.old) (kept_faults self.new) 0 0 result }
 
         // Which calls fail, and what the others answer.

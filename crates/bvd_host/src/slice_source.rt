@@ -1,6 +1,6 @@
 //! A source in memory, which gives its bytes in small pieces and whose reads can be made to fail.
 ghost use Rattle.std.specs.Prelude.{◌≡◌, ◌≤◌, ◌<◌, ◌↔◌, ◌++◌, [], min, length, take, drop, Some, None, IfOk, OnErr, OnOk, IsOk, false};
-ghost use Rattle.bvd_host.specs.Causes.{HasCause, LeavesUnlessFailed};
+ghost use Rattle.bvd_host.specs.Causes.{HasCause};
 ghost use Rattle.bvd_host.specs.Given.{Gives, GivesAtMost};
 ghost use Rattle.bvd_host.specs.Calls.{no_calls, next_call, is_failing, faults_after, FailsExactly};
 
@@ -62,9 +62,7 @@ impl<'a> Source for SliceSource<'a> {
         ensures bytes { IfOk result (λ n. Gives (source_left self.old) (source_left self.new) n buf.new) }
         ensures room { IfOk result (λ n. GivesAtMost (source_room self.old) (source_room self.new) n) }
         ensures err { OnErr result ((source_left self.new ≡ source_left self.old) × (source_room self.new ≡ source_room self.old)) }
-        ensures missing { source_missing self.old ≤ source_missing self.new }
-        ensures kept { OnOk result (source_faults self.new ≡ source_faults self.old) }
-        ensures spared { LeavesUnlessFailed SourceStop.Failed (source_faults self.old) (source_faults self.new) result }
+        ensures missing { source_missing self.new ≡ source_missing self.old }
         ensures cause { HasCause SourceStop.Failed (source_faults self.old) (source_faults self.new) result }
         ensures piece { source_piece self.new ≡ source_piece self.old }
 

@@ -2,7 +2,7 @@
 //! the whole text however the source cuts it.
 ghost use Rattle.std.specs.Prelude.{◌≡◌, ℕ, ◌+◌, ◌≤◌, ◌<◌, List, [], ◌++◌, length, take, Option, option_map, IfSome, IfOk, OnErr, OnOk};
 ghost use Rattle.bvd_host.specs.Files.{Files};
-ghost use Rattle.bvd_host.specs.Causes.{HasCause, LeavesUnlessFailed};
+ghost use Rattle.bvd_host.specs.Causes.{HasCause};
 ghost use Rattle.bvd_host.specs.Given.{Gives, GivesAtMost};
 
 use std::alloc::AllocError;
@@ -52,8 +52,6 @@ pub trait Source {
         ensures err { OnErr result ((left self.new ≡ left self.old) × (room self.new ≡ room self.old)) }
         ensures base { base self.new ≡ base self.old }
         ensures lender { lender self.new ≡ lender self.old }
-        ensures missing { missing self.old ≤ missing self.new }
-        ensures kept { OnOk result (faults self.new ≡ faults self.old) }
-        ensures spared { LeavesUnlessFailed SourceStop.Failed (faults self.old) (faults self.new) result }
+        ensures missing { missing self.new ≡ missing self.old }
         ensures cause { HasCause SourceStop.Failed (faults self.old) (faults self.new) result };
 }

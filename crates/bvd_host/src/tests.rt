@@ -1,16 +1,12 @@
 //! The objects in memory fail at the listed calls, and the real devices keep what they are given, which no clause says.
-use crate::disk_keeper::DiskKeeper;
-use crate::keeper::{KeepStop, Keeper};
-use crate::map_keeper::MapKeeper;
-use crate::sink::Sink;
-use crate::slice_source::SliceSource;
-use crate::source::Source;
-use crate::stdout_sink::StdoutSink;
-use crate::vec_sink::VecSink;
+use crate::{
+    DiskKeeper, KeepStop, Keeper, MapKeeper, Sink, SliceSource, Source, StdoutSink, VecSink,
+};
 use std::alloc::{AllocError, Global};
 use std::collections::BTreeMap;
-use std::fs;
+use std::rt::Files;
 use std::test::Fail;
+use std::{fs, io};
 
 /// One word for an answer of a keeper.
 fn word<T: Drop>(answer: Result<T, KeepStop>) -> &'static str {
@@ -105,6 +101,13 @@ const FOLDER: &str = "bvd_host_test";
 /// A file in it.
 const PATH: &str = "bvd_host_test/a";
 
+/// A keeper of real files in an empty folder.
+fn disk_of<R: Files + Alloc>(rt: &R) -> io::Result<DiskKeeper<'_, R>> {
+    let _gone = fs::remove_dir_all(rt, FOLDER);
+    fs::create_dir(rt, FOLDER)?;
+    Ok(DiskKeeper::new(rt))
+}
+
 /// Makes the file hold these bytes alone.
 fn rewrite<K: Keeper>(keeper: &mut K, bytes: &[u8]) -> &'static str {
     match keeper.create(PATH) {
@@ -115,16 +118,59 @@ fn rewrite<K: Keeper>(keeper: &mut K, bytes: &[u8]) -> &'static str {
 
 #[test]
 fn real_files_keep_what_is_added(rt: HostRuntime) -> Result<(), Fail> {
-    let _gone = fs::remove_dir_all(&rt, FOLDER);
-    fs::create_dir(&rt, FOLDER)?;
-    let mut keeper = DiskKeeper::new(&rt);
+    let mut keeper = disk_of(&rt)?;
     assert_eq!(rt; word(keeper.size(PATH)), "absent");
     assert_eq!(rt; rewrite(&mut keeper, b"abc"), "ok");
     assert_eq!(rt; rewrite(&mut keeper, b"defgh"), "ok");
+    assert_eq!(rt; word(keeper.append(PATH, b"ij")), "ok");
+    assert_eq!(rt; keeper.size(PATH).unwrap_or(0), 7);
     let mut piece = [0u8; 8];
-    assert_eq!(rt; keeper.read_at(PATH, 1, &mut piece).unwrap_or(0), 4);
-    assert_eq!(rt; piece, *b"efgh\0\0\0\0");
+    assert_eq!(rt; keeper.read_at(PATH, 1, &mut piece).unwrap_or(0), 6);
+    assert_eq!(rt; piece, *b"efghij\0\0");
     assert_eq!(rt; StdoutSink::new(&rt).write(b"written\n").unwrap_or(0), 8);
+    fs::remove_dir_all(&rt, FOLDER)?;
+    Ok(())
+}
+
+#[test]
+fn real_files_are_read_from_an_offset_on(rt: HostRuntime) -> Result<(), Fail> {
+    let mut keeper = disk_of(&rt)?;
+    assert_eq!(rt; rewrite(&mut keeper, &[b'a'; 4096]), "ok");
+    assert_eq!(rt; word(keeper.append(PATH, b"bcd")), "ok");
+    let mut piece = [0u8; 4];
+    for (from, count, bytes) in [
+        (4095, 4, *b"abcd"),
+        (4096, 3, *b"bcdd"),
+        (4098, 1, *b"dcdd"),
+        (4099, 0, *b"dcdd"),
+        (9000, 0, *b"dcdd"),
+    ] {
+        assert_eq!(rt;
+            keeper.read_at(PATH, from, &mut piece).unwrap_or(9),
+            count,
+            "from {from}"
+        );
+        assert_eq!(rt; piece, bytes, "from {from}");
+    }
+    fs::remove_dir_all(&rt, FOLDER)?;
+    Ok(())
+}
+
+#[test]
+fn only_a_missing_file_is_absent(rt: HostRuntime) -> Result<(), Fail> {
+    let mut keeper = disk_of(&rt)?;
+    assert_eq!(rt; rewrite(&mut keeper, b"abc"), "ok");
+    let mut piece = [0u8; 4];
+    // A folder can't be read as a file, and a file isn't a folder.
+    assert_eq!(rt; word(keeper.read_at(FOLDER, 0, &mut piece)), "failed");
+    assert_eq!(rt; word(keeper.create(FOLDER)), "failed");
+    assert_eq!(rt; word(keeper.size("bvd_host_test/a/b")), "failed");
+    assert_eq!(rt; word(keeper.size("bvd_host_test/b")), "absent");
+    assert_eq!(rt;
+        word(keeper.read_at("bvd_host_test/b", 0, &mut piece)),
+        "failed"
+    );
+    assert_eq!(rt; word(keeper.append("bvd_host_test/b", b"abc")), "failed");
     fs::remove_dir_all(&rt, FOLDER)?;
     Ok(())
 }

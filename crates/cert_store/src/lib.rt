@@ -1,8 +1,12 @@
 //! Certificates in a keeper of files: written whole or said to have failed, and read back as a source.
 #![tactic(auto)]
 
-pub mod fetching;
-pub mod putting;
-pub mod stop;
+mod fetching;
+mod putting;
+mod stop;
 #[cfg(test)]
 mod tests;
+
+pub use fetching::{fetch, find};
+pub use putting::put;
+pub use stop::StoreStop;

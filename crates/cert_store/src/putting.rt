@@ -1,12 +1,12 @@
 //! Writes a certificate. A keeper may take a piece in part, so each piece is followed by the rest of it, until the file is
 //! whole or the keeper refuses.
-ghost use Rattle.std.specs.Prelude.{◌≡◌, ◌≤◌, [], take, option_map, OnOk, OnErr, IfOk, IfSome, IsSome, IsErrOf};
+ghost use Rattle.std.specs.Prelude.{◌≡◌, [], take, option_map, OnOk, OnErr, IfOk, IfSome, IsSome, IsErrOf};
 ghost use Rattle.bvd_host.specs.Files.{file_at, with_file, with_more, IsTaken};
 ghost use Rattle.bvd_host.specs.Causes.{HasCause};
 ghost use Rattle.cert_store.specs.CutShort.{IsCutShort};
 
 use crate::stop::StoreStop;
-use bvd_host::keeper::{KeepStop, Keeper};
+use bvd_host::{KeepStop, Keeper};
 
 /// Makes the name stand for no bytes.
 fn make<K: Keeper>(keeper: &mut K, name: &str) -> Result<(), StoreStop>
@@ -14,7 +14,7 @@ fn make<K: Keeper>(keeper: &mut K, name: &str) -> Result<(), StoreStop>
     ensures err { OnErr result (K.files keeper.new ≡ K.files keeper.old) }
     ensures absent { IsErrOf result StoreStop.Absent → ⊥ }
     ensures cause { HasCause StoreStop.Failed (K.faults keeper.old) (K.faults keeper.new) result }
-    ensures missing { K.missing keeper.old ≤ K.missing keeper.new }
+    ensures missing { K.missing keeper.new ≡ K.missing keeper.old }
 {
     match keeper.create(name) {
         Ok(()) => Ok(()),
@@ -32,7 +32,7 @@ fn add_piece<K: Keeper>(keeper: &mut K, name: &str, bytes: &[u8]) -> Result<usiz
     ensures err { OnErr result (K.files keeper.new ≡ K.files keeper.old) }
     ensures absent { IsErrOf result StoreStop.Absent → ⊥ }
     ensures cause { HasCause StoreStop.Failed (K.faults keeper.old) (K.faults keeper.new) result }
-    ensures missing { K.missing keeper.old ≤ K.missing keeper.new }
+    ensures missing { K.missing keeper.new ≡ K.missing keeper.old }
 {
     match keeper.append(name, bytes) {
         Ok(count) => Ok(count),
@@ -52,7 +52,7 @@ pub fn put<K: Keeper>(keeper: &mut K, name: &str, text: &[u8]) -> Result<(), Sto
     ensures err { OnErr result (IsCutShort name.now text.now (K.files keeper.old) (K.files keeper.new)) }
     ensures absent { IsErrOf result StoreStop.Absent → ⊥ }
     ensures cause { HasCause StoreStop.Failed (K.faults keeper.old) (K.faults keeper.new) result }
-    ensures missing { K.missing keeper.old ≤ K.missing keeper.new }
+    ensures missing { K.missing keeper.new ≡ K.missing keeper.old }
 {
     make(keeper, name)?;
     let mut at = 0usize;

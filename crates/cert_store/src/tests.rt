@@ -1,10 +1,6 @@
 //! Each call once with ample memory, and a write that fails in the middle.
-use crate::fetching::fetch;
-use crate::putting::put;
-use crate::stop::StoreStop;
-use bvd_host::keeper::Keeper;
-use bvd_host::map_keeper::MapKeeper;
-use bvd_host::source::Source;
+use crate::{StoreStop, fetch, put};
+use bvd_host::{Keeper, MapKeeper, Source};
 use std::alloc::{AllocError, Global};
 use std::collections::BTreeMap;
 use std::test::Fail;
@@ -54,6 +50,8 @@ fn what_is_put_is_fetched(rt: HostRuntime) -> Result<(), Fail> {
             9,
             "write {call} failing"
         );
+        // A refused search makes no file.
+        assert_eq!(rt; keeper.files().len(), 1, "write {call} failing");
     }
     Ok(())
 }

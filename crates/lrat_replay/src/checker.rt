@@ -1,7 +1,7 @@
 //! The checker: reads the text piece by piece, and answers as soon as the lines decide.
 
 ghost use Rattle.std.specs.Prelude.{ℕ, ◌≡◌, ◌+◌, ◌-◌, ◌^◌, ◌<◌, ◌≤◌, List, Some, IfErr, IfOk, IsErrOf, IsOk, OnErr, false, length, vec_len};
-ghost use Rattle.bvd_host.specs.Causes.{LeavesUnlessFailed, Rose};
+ghost use Rattle.bvd_host.specs.Causes.{HasCause};
 ghost use Rattle.bvd_host.specs.Given.{Gives, GivesAtMost};
 ghost use Rattle.sat_form.specs.Truth.{HaveNoValues};
 ghost use Rattle.lrat_replay.specs.Answer.{Answers, IsFromText};
@@ -12,7 +12,7 @@ ghost use Rattle.lrat_replay.specs.Told.{Brings, Ends, IsAbove, OfText};
 
 use crate::progress::Progress;
 use crate::stop::ReplayStop;
-use bvd_host::source::{Source, SourceStop};
+use bvd_host::{Source, SourceStop};
 use lrat_lines::{checked_lines_are_accepted, checked_lines_refute};
 use sat_form::Cnf;
 use std::alloc::Global;
@@ -34,10 +34,8 @@ fn read_piece<R: Source>(
     ensures room { IfOk result (λ n. GivesAtMost (R.room source.old) (R.room source.new) n) }
     ensures stop { IfErr result IsOutside }
     ensures err { OnErr result (R.left source.new ≡ R.left source.old) }
-    ensures fault { IsErrOf result ReplayStop.ReadFault → Rose (R.faults source.old) (R.faults source.new) }
-    ensures spared { LeavesUnlessFailed ReplayStop.ReadFault (R.faults source.old) (R.faults source.new) result }
-    ensures later { R.faults source.old ≤ R.faults source.new }
-    ensures missing { R.missing source.old ≤ R.missing source.new }
+    ensures cause { HasCause ReplayStop.ReadFault (R.faults source.old) (R.faults source.new) result }
+    ensures missing { R.missing source.new ≡ R.missing source.old }
     ensures base { R.base source.new ≡ R.base source.old }
     ensures lender { R.lender source.new ≡ R.lender source.old }
 {
@@ -65,10 +63,8 @@ fn advance<R: Source>(
     ensures taken { TookAtMost (R.left source.old) (R.left source.new) (progress.old.left + 1) }
     ensures went { IfOk result (λ ended. ended ≡ false → TookAtMost (R.left source.old) (R.left source.new) (progress.old.left - progress.new.left)) }
     ensures room { IfOk result (λ ended. ended ≡ false → IsAbove (R.room source.new) progress.new.left → IsAbove (R.room source.old) progress.old.left) }
-    ensures fault { IsErrOf result ReplayStop.ReadFault → Rose (R.faults source.old) (R.faults source.new) }
-    ensures spared { LeavesUnlessFailed ReplayStop.ReadFault (R.faults source.old) (R.faults source.new) result }
-    ensures later { R.faults source.old ≤ R.faults source.new }
-    ensures missing { R.missing source.old ≤ R.missing source.new }
+    ensures cause { HasCause ReplayStop.ReadFault (R.faults source.old) (R.faults source.new) result }
+    ensures missing { R.missing source.new ≡ R.missing source.old }
     ensures base { R.base source.new ≡ R.base source.old }
     ensures lender { R.lender source.new ≡ R.lender source.old }
 {
@@ -87,10 +83,8 @@ fn run<R: Source>(alloc: Global, progress: &mut Progress, source: &mut R) -> Res
     ensures answers { Ends result (λ r. OfText (R.left source.old) (λ text. WillAnswer progress.old text r)) }
     ensures taken { TookAtMost (R.left source.old) (R.left source.new) (progress.old.left + 1) }
     ensures too_long { IsErrOf result ReplayStop.TooLong → IsAbove (R.room source.old) progress.old.left }
-    ensures fault { IsErrOf result ReplayStop.ReadFault → Rose (R.faults source.old) (R.faults source.new) }
-    ensures spared { LeavesUnlessFailed ReplayStop.ReadFault (R.faults source.old) (R.faults source.new) result }
-    ensures later { R.faults source.old ≤ R.faults source.new }
-    ensures missing { R.missing source.old ≤ R.missing source.new }
+    ensures cause { HasCause ReplayStop.ReadFault (R.faults source.old) (R.faults source.new) result }
+    ensures missing { R.missing source.new ≡ R.missing source.old }
     ensures base { R.base source.new ≡ R.base source.old }
     ensures lender { R.lender source.new ≡ R.lender source.old }
 {
@@ -122,12 +116,10 @@ pub fn replay<R: Source>(
     ensures refuted { IsOk result → HaveNoValues cnf.now.clauses }
     ensures short { (room : ℕ) → R.room source.old ≡ Some room → room ≤ most → IsErrOf result ReplayStop.TooLong → ⊥ }
     ensures taken { TookAtMost (R.left source.old) (R.left source.new) (most + 1) }
-    ensures fault { IsErrOf result ReplayStop.ReadFault → Rose (R.faults source.old) (R.faults source.new) }
+    ensures cause { HasCause ReplayStop.ReadFault (R.faults source.old) (R.faults source.new) result }
     // No read failed unless the answer says so.
     ensures unfailing { IsFromText result → R.faults source.new ≡ R.faults source.old }
-    ensures spared { LeavesUnlessFailed ReplayStop.ReadFault (R.faults source.old) (R.faults source.new) result }
-    ensures later { R.faults source.old ≤ R.faults source.new }
-    ensures missing { R.missing source.old ≤ R.missing source.new }
+    ensures missing { R.missing source.new ≡ R.missing source.old }
     ensures base { R.base source.new ≡ R.base source.old }
     ensures lender { R.lender source.new ≡ R.lender source.old }
 {

@@ -1,7 +1,7 @@
 //! Certificates over the clauses `1` and `-1`, in pieces of several sizes, and reads that fail.
 
 use crate::replay;
-use bvd_host::slice_source::SliceSource;
+use bvd_host::SliceSource;
 use sat_form::{Clauses, Cnf, Lit};
 use std::alloc::{AllocError, Global};
 use std::test::Fail;

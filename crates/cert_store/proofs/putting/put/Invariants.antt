@@ -8,8 +8,8 @@ abbrev pub invariant-pieces : goal.invariant-pieces
 invariant-pieces g l = record {
   files : g.K.Keeper.files l.keeper ≡ option_map (λ f. with_file f l.name (take l.at l.text)) (g.K.Keeper.files l.fn.keeper);
   most : l.at ≤ length l.text;
-  faults : g.K.Keeper.faults l.fn.keeper ≤ g.K.Keeper.faults l.keeper;
-  missing : g.K.Keeper.missing l.fn.keeper ≤ g.K.Keeper.missing l.keeper;
+  faults : g.K.Keeper.faults l.keeper ≡ g.K.Keeper.faults l.fn.keeper;
+  missing : g.K.Keeper.missing l.keeper ≡ g.K.Keeper.missing l.fn.keeper;
 }
 
 abbrev pub decreases-pieces : goal.decreases-pieces

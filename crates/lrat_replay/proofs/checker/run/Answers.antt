@@ -2,6 +2,7 @@ use Rattle.std.proofs.Common.{ℕ, ◌≡◌, ◌+◌, ◌-◌, List, length, �
 use Rattle.std.proofs.lemmas.List.{length-take-le}
 use Rattle.std.specs.Prelude.{Ok, Err}
 use Rattle.std.proofs.lemmas.Result.{err_from_is_err_and}
+use Rattle.bvd_host.proofs.Caused.{passed_on, spared_ok}
 use Rattle.lrat_replay.specs.Standing.{WillAnswer}
 use Rattle.lrat_replay.specs.Told.{OfText}
 use Rattle.lrat_replay.specs.declared.stop.ReplayStop.TheVariants.{ReadFault, TooLong}
@@ -28,10 +29,14 @@ returns-in_err-advance-clause-too_long g c =
     let p = err_from_is_err_and c.from_residual-in_err-advance.result c.from_residual-in_err-advance.ensures.1 in
     rw (p.1, p.2) (λ long. let same : c.in_err-advance.field-0.0 ≡ TooLong = cc in c.pieces.invariant.room (c.in_err-advance.ensures.too_long (ap Err same)))
 
-pub returns-in_err-advance-clause-spared : goal.returns-in_err-advance-clause-spared
-returns-in_err-advance-clause-spared g c =
+pub returns-in_err-advance-clause-cause : goal.returns-in_err-advance-clause-cause
+returns-in_err-advance-clause-cause g c =
     let p = err_from_is_err_and c.from_residual-in_err-advance.result c.from_residual-in_err-advance.ensures.1 in
-    rw (p.1, p.2) (λ other. c.in_err-advance.ensures.spared (λ failed. let same : c.in_err-advance.field-0.0 ≡ ReadFault = cc in other (ap Err same)) ∙ c.pieces.invariant.faults)
+    rw (p.1, p.2) (passed_on ReadFault c.in_err-advance.field-0.0 _ _ _ c.pieces.invariant.faults c.in_err-advance.ensures.cause)
+
+pub returns-then-branch-clause-cause : goal.returns-then-branch-clause-cause
+returns-then-branch-clause-cause g c =
+    spared_ok ReadFault tt _ _ (c.in_ok-advance.ensures.cause.spared (λ failed. cc) ∙ c.pieces.invariant.faults)
 
 pub returns-then-branch-clause-answers : goal.returns-then-branch-clause-answers
 returns-then-branch-clause-answers g c =
@@ -51,8 +56,8 @@ pieces-preserved g c = record {
       let less = c.in_ok-advance.ensures.shorter c.if-branch.false in
       took_more (g.R.Source.left c.args.source.now) (g.R.Source.left c.pieces.source) (g.R.Source.left c.advance.new.source) (c.args.progress.now.left - c.pieces.progress.left) (c.pieces.progress.left - c.advance.new.progress.left) (c.args.progress.now.left - c.advance.new.progress.left) c.pieces.invariant.taken (c.in_ok-advance.ensures.went c.if-branch.false) (omega (arith, less, c.pieces.invariant.within));
   room = λ above. c.pieces.invariant.room (c.in_ok-advance.ensures.room c.if-branch.false above);
-  faults = c.in_ok-advance.ensures.spared (λ failed. cc) ∙ c.pieces.invariant.faults;
-  missing = omega (arith, c.advance.ensures.missing, c.pieces.invariant.missing);
+  faults = c.in_ok-advance.ensures.cause.spared (λ failed. cc) ∙ c.pieces.invariant.faults;
+  missing = c.advance.ensures.missing ∙ c.pieces.invariant.missing;
   base = c.advance.ensures.base ∙ c.pieces.invariant.base;
   lender = c.advance.ensures.lender ∙ c.pieces.invariant.lender;
 }
@@ -66,7 +71,7 @@ pieces-init g c = record {
   taken = took_none (g.R.Source.left c.args.source.now) (g.R.Source.left c.args.source.now) (c.args.progress.now.left - c.args.progress.now.left) refl;
   room = λ above. above;
   faults = refl;
-  missing = omega arith;
+  missing = refl;
   base = refl;
   lender = refl;
 }

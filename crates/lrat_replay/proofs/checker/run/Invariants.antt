@@ -15,7 +15,7 @@ invariant-pieces g l = record {
   taken : TookAtMost (g.R.Source.left l.initial.source) (g.R.Source.left l.source) (l.initial.progress.left - l.progress.left);
   room : IsAbove (g.R.Source.room l.source) l.progress.left → IsAbove (g.R.Source.room l.initial.source) l.initial.progress.left;
   faults : g.R.Source.faults l.source ≡ g.R.Source.faults l.initial.source;
-  missing : g.R.Source.missing l.initial.source ≤ g.R.Source.missing l.source;
+  missing : g.R.Source.missing l.source ≡ g.R.Source.missing l.initial.source;
   base : g.R.Source.base l.source ≡ g.R.Source.base l.initial.source;
   lender : g.R.Source.lender l.source ≡ g.R.Source.lender l.initial.source;
 }
