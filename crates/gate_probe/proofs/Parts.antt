@@ -60,6 +60,28 @@ right_packed l a b p q = ap number_literal (go (literal_number a) (literal_numbe
     go : (x y : ℕ) → x < 8388608 → y < 8388608 → (l * 70368744177664 + x * 8388608 + y) % 8388608 ≡ y
     go x y u v = omega arith
 
+-- a word is that of its parts
+number_back : (n : ℕ) → literal_number (number_literal n) ≡ n
+number_back n = go (nat_eq (n % 2) 1) refl
+  where
+    go : (t : Bool) → nat_eq (n % 2) 1 ≡ t → 2 * (n / 2) + (if t then 1 else 0) ≡ n
+    go true e = let o : n % 2 ≡ 1 = grind (arith, common_steps) in omega arith
+    go false e = let o : n % 2 ≢ 1 = grind (arith, common_steps) in omega arith
+
+pub word_is : (w : ℕ) → w ≡ gate_word (level_of w) (left_of w) (right_of w)
+word_is w =
+    whole w
+    ∙ ap₂ (λ x y. w / 70368744177664 * 70368744177664 + x * 8388608 + y) (sym (number_back (w / 8388608 % 8388608))) (sym (number_back (w % 8388608)))
+  where
+    whole : (w : ℕ) → w ≡ w / 70368744177664 * 70368744177664 + w / 8388608 % 8388608 * 8388608 + w % 8388608
+    whole w = omega arith
+
+pub left_small : (w : ℕ) → (left_of w).node < 4194304
+left_small w = omega arith
+
+pub right_small : (w : ℕ) → (right_of w).node < 4194304
+right_small w = omega arith
+
 pub packed_some : (l : ℕ) (a b : Literal) → 0 < l → gate_word l a b ≢ 0
 packed_some l a b h e = go (literal_number a) (literal_number b) e
   where

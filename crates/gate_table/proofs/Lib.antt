@@ -1,0 +1,5 @@
+pub mod Allowed
+pub mod Knowing
+pub mod Searched
+pub mod Conjoining
+pub mod Gating

@@ -1,0 +1,4 @@
+pub mod Sitting
+pub mod Plays
+pub mod Searches
+pub mod Answers
