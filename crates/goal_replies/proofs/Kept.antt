@@ -1,6 +1,6 @@
 -- A kept certificate and a later check of it.
 use Rattle.std.proofs.Common.{◌≡◌, ◌⊎◌, inl, inr, ℕ, Bool, true, false, List, refl, sym, ap, ◌∙◌, subst, not}
-use Rattle.std.specs.Prelude.{◌↔◌, ◌^◌, ◌-◌, IsTrue, Some, None}
+use Rattle.std.specs.Prelude.{◌↔◌, ◌^◌, ◌-◌, ◌≤◌, IsTrue, Some, None, length}
 use Rattle.bvd_host.specs.Causes.{Rose}
 use Rattle.bvd_host.specs.Files.{Files, file_at}
 use Rattle.bv_expr.specs.Term.{Term, truth}
@@ -14,7 +14,9 @@ use Rattle.goal_alone.specs.Formula.{goal_clauses, goal_end}
 use Rattle.goal_alone.specs.Alone.{Answer, solved, alone}
 use Rattle.bvd_report.specs.Report.{Told, Proved, False, Budget, Deep, Large, OutOfMemory, Clauses, Accepted, Refused, NoEmptyClause, AbsentCertificate}
 use Rattle.goal_replies.specs.Decided.{IsDecidedAs}
+use Rattle.goal_replies.specs.Certificate.{IsReplayed}
 use Rattle.goal_replies.specs.Checked.{IsCheckedAs}
+use Rattle.goal_replies.specs.Solved.{IsCertificateFor}
 use Rattle.goal_replies.specs.Laws.{KeptCertificateIsAccepted}
 
 -- a statement is one truth at most
@@ -41,37 +43,36 @@ made_of_proved : (binders : Binders) (hyps : List Term) (concl : Term) (steps : 
 unfolding alone
 made_of_proved binders hyps concl steps text e = made_of_end (goal_end hyps concl) (solved binders hyps concl steps) text e
 
--- a file whose text is accepted over a goal's clauses comes to nothing else
-only_accepted : (files : Files) (name text : List ℕ) (hyps : List Term) (concl : Term) → file_at files name ≡ Some text
-    → TextComesTo (goal_clauses hyps concl) (2 ^ 64 - 1) text Verdict.Accepted → (verdict : Verdict) → (bytes : List ℕ) → file_at files name ≡ Some bytes
-    → TextComesTo (goal_clauses hyps concl) (2 ^ 64 - 1) bytes verdict → Verdict.Accepted ≡ verdict
-only_accepted files name text hyps concl held accepted verdict bytes here comes =
+-- a file whose text is a certificate for a goal's clauses comes to nothing else
+only_accepted : (files : Files) (name text : List ℕ) (hyps : List Term) (concl : Term) → file_at files name ≡ Some text → IsCertificateFor hyps concl text
+    → (verdict : Verdict) → IsReplayed (Some files) name (goal_clauses hyps concl) verdict → Verdict.Accepted ≡ verdict
+only_accepted files name text hyps concl held certificate verdict (bytes, (here, few), comes) =
     let same : bytes ≡ text = cc in
-    one_verdict (given (goal_clauses hyps concl)) 1 (lines_within (2 ^ 64 - 1) text) Verdict.Accepted verdict accepted
+    one_verdict (given (goal_clauses hyps concl)) 1 (lines_within (2 ^ 64 - 1) text) Verdict.Accepted verdict
+    (certificate (2 ^ 64 - 1) (subst (λ b. length b ≤ 2 ^ 64 - 1) same few))
     (subst (λ b. TextComesTo (goal_clauses hyps concl) (2 ^ 64 - 1) b verdict) same comes)
 
 -- a check of such a file tells that it is accepted
 kept_as : (files : Files) (missing : Type 0) (name text : List ℕ) (goal : Statement) (hyps : List Term) (concl : Term) → file_at files name ≡ Some text → goal_end hyps concl ≡ Made
-    → TextComesTo (goal_clauses hyps concl) (2 ^ 64 - 1) text Verdict.Accepted → (told : Told) → IsCheckedAs (Some files) missing name goal hyps concl told
-    → (told ≡ Accepted) ⊎ (told ≡ OutOfMemory)
-kept_as files missing name text goal hyps concl held made accepted Accepted are = inl refl
-kept_as files missing name text goal hyps concl held made accepted OutOfMemory are = inr refl
-kept_as files missing name text goal hyps concl held made accepted Deep are = absurd cc
-kept_as files missing name text goal hyps concl held made accepted Large are = absurd cc
-kept_as files missing name text goal hyps concl held made accepted (Refused line fault) are =
-    let no : Verdict.Accepted ≡ Verdict.Refused line fault = only_accepted files name text hyps concl held accepted (Verdict.Refused line fault) are.1.0 are.1.1 are.1.2 in
+    → IsCertificateFor hyps concl text → (told : Told) → IsCheckedAs (Some files) missing name goal hyps concl told → (told ≡ Accepted) ⊎ (told ≡ OutOfMemory)
+kept_as files missing name text goal hyps concl held made certificate Accepted are = inl refl
+kept_as files missing name text goal hyps concl held made certificate OutOfMemory are = inr refl
+kept_as files missing name text goal hyps concl held made certificate Deep are = absurd cc
+kept_as files missing name text goal hyps concl held made certificate Large are = absurd cc
+kept_as files missing name text goal hyps concl held made certificate (Refused line fault) are =
+    let no : Verdict.Accepted ≡ Verdict.Refused line fault = only_accepted files name text hyps concl held certificate (Verdict.Refused line fault) are.1 in
     absurd cc
-kept_as files missing name text goal hyps concl held made accepted NoEmptyClause are =
-    let no : Verdict.Accepted ≡ Verdict.Undecided = only_accepted files name text hyps concl held accepted Verdict.Undecided are.1.0 are.1.1 are.1.2 in
+kept_as files missing name text goal hyps concl held made certificate NoEmptyClause are =
+    let no : Verdict.Accepted ≡ Verdict.Undecided = only_accepted files name text hyps concl held certificate Verdict.Undecided are.1 in
     absurd cc
-kept_as files missing name text goal hyps concl held made accepted AbsentCertificate are = let here : file_at files name ≡ None = are.1 in absurd cc
-kept_as files missing name text goal hyps concl held made accepted (Proved own) are = absurd are
-kept_as files missing name text goal hyps concl held made accepted (False values) are = absurd are
-kept_as files missing name text goal hyps concl held made accepted (Budget spent) are = absurd are
-kept_as files missing name text goal hyps concl held made accepted (Clauses own) are = absurd are
+kept_as files missing name text goal hyps concl held made certificate AbsentCertificate are = let here : file_at files name ≡ None = are.1 in absurd cc
+kept_as files missing name text goal hyps concl held made certificate (Proved own) are = absurd are
+kept_as files missing name text goal hyps concl held made certificate (False values) are = absurd are
+kept_as files missing name text goal hyps concl held made certificate (Budget spent) are = absurd are
+kept_as files missing name text goal hyps concl held made certificate (Clauses own) are = absurd are
 
 pub kept_is_accepted : KeptCertificateIsAccepted
-kept_is_accepted steps goal text files before after name told proved held fits checked =
+kept_is_accepted steps goal text files before after name told proved held checked =
     let same = decided_once goal checked.0 proved.0 checked.1 proved.1 checked.2 proved.2 in
-    kept_as files (Rose before after) name text goal proved.0 proved.1 held (made_of_proved goal.binders proved.0 proved.1 steps text proved.3.0) (proved.3.1 (2 ^ 64 - 1) fits) told
+    kept_as files (Rose before after) name text goal proved.0 proved.1 held (made_of_proved goal.binders proved.0 proved.1 steps text proved.3.0) proved.3.1 told
     (subst (λ t. IsCheckedAs (Some files) (Rose before after) name goal proved.0 t told) same.1 (subst (λ h. IsCheckedAs (Some files) (Rose before after) name goal h checked.1 told) same.0 checked.3))

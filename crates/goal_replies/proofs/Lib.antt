@@ -1,3 +1,4 @@
 pub mod Meant
 pub mod Outcomes
 pub mod Kept
+pub mod Verdicts

@@ -10,9 +10,9 @@ use Rattle.bv_print.specs.Values.{values_text}
 use Rattle.bvd_report.specs.Report.{Told, False, OutOfMemory}
 use Rattle.sat_form.specs.Literals.{Literal}
 use Rattle.sat_form.specs.Truth.{HaveNoValues}
-use Rattle.cert_check.specs.Checked as of_certificate
-use Rattle.cert_check.specs.declared.checked.Checked.{Checked}
-use Rattle.cert_check.specs.declared.checked.Checked.TheVariants as checked
+use Rattle.goal_replies.specs.Certificate as of_certificate
+use Rattle.goal_replies.specs.declared.certificate.Checked.{Checked}
+use Rattle.goal_replies.specs.declared.certificate.Checked.TheVariants as checked
 use Rattle.goal_alone.specs.Ends.{Made}
 use Rattle.goal_alone.specs.Formula.{goal_clauses, goal_end}
 use Rattle.goal_alone.specs.Satisfying.{IsSatisfiable, IsFalsifiable}
@@ -37,7 +37,7 @@ valid_of_none binders hyps concl cs none same = λ values fit falsify.
 
 -- what a goal's certificate comes to over its clauses is told
 pub told_outcome : (files : Option Files) (missing : Type 0) (name : List ℕ) (goal : Statement) (cs : List (List Literal)) (outcome : Checked) → goal_end goal.hyps goal.concl ≡ Made
-    → cs ≡ goal_clauses goal.hyps goal.concl → of_certificate.IsChecked files missing name cs outcome → (outcome ≡ checked.Accepted → IsValid goal.binders goal.hyps goal.concl)
+    → cs ≡ goal_clauses goal.hyps goal.concl → of_certificate.IsOutcome files missing name cs outcome → (outcome ≡ checked.Accepted → IsValid goal.binders goal.hyps goal.concl)
     → IsCheckedAs files missing name goal goal.hyps goal.concl (checked_told outcome)
 told_outcome files missing name goal cs checked.Accepted made e is valid = (made, rw e at is, valid refl)
 told_outcome files missing name goal cs (checked.Refused line fault) made e is valid = (made, rw e at is)

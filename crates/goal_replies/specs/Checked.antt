@@ -5,7 +5,7 @@ use Rattle.bv_expr.specs.Term.{Term}
 use Rattle.bv_expr.specs.Goal.{IsValid}
 use Rattle.bv_lines.specs.Statement.{Statement}
 use Rattle.lrat_lines.specs.Replay.{Verdict}
-use Rattle.cert_check.specs.Checked.{IsReplayed, IsAbsent}
+use Rattle.goal_replies.specs.Certificate.{IsReplayed, IsAbsent}
 use Rattle.goal_alone.specs.Ends.{Made, TooDeep, TooMany}
 use Rattle.goal_alone.specs.Formula.{goal_clauses, goal_end}
 use Rattle.bvd_report.specs.Report.{Told, Proved, False, Budget, Deep, Large, OutOfMemory, Clauses, Accepted, Refused, NoEmptyClause, AbsentCertificate}

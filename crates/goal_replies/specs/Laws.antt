@@ -1,5 +1,5 @@
 -- What the commands' answers say of one another.
-use Rattle.std.specs.Prelude.{◌≡◌, ◌⊎◌, ◌≤◌, ◌-◌, ◌^◌, ℕ, List, Some, length}
+use Rattle.std.specs.Prelude.{◌≡◌, ◌⊎◌, ℕ, List, Some}
 use Rattle.bvd_host.specs.Causes.{Rose}
 use Rattle.bvd_host.specs.Files.{Files, file_at}
 use Rattle.bv_lines.specs.Statement.{Statement}
@@ -11,4 +11,4 @@ use Rattle.goal_replies.specs.Checked.{IsChecked}
 -- that it is accepted, or that there is no memory, however many files were found missing before and after it.
 abbrev pub KeptCertificateIsAccepted : Type 0
 KeptCertificateIsAccepted = (steps : ℕ) (goal : Statement) (text : List ℕ) (files : Files) (before after : ℕ) (name : List ℕ) (told : Told)
-    → IsSolved steps goal (Proved text) → file_at files name ≡ Some text → length text ≤ 2 ^ 64 - 1 → IsChecked (Some files) (Rose before after) name goal told → (told ≡ Accepted) ⊎ (told ≡ OutOfMemory)
+    → IsSolved steps goal (Proved text) → file_at files name ≡ Some text → IsChecked (Some files) (Rose before after) name goal told → (told ≡ Accepted) ⊎ (told ≡ OutOfMemory)

@@ -1,3 +1,4 @@
+pub mod Certificate
 pub mod Decided
 pub mod Clauses
 pub mod Solved

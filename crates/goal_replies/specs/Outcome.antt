@@ -1,6 +1,6 @@
 -- What a certificate comes to, as it is told.
-use Rattle.cert_check.specs.declared.checked.Checked.{Checked}
-use Rattle.cert_check.specs.declared.checked.Checked.TheVariants as checked
+use Rattle.goal_replies.specs.declared.certificate.Checked.{Checked}
+use Rattle.goal_replies.specs.declared.certificate.Checked.TheVariants as checked
 use Rattle.lrat_replay.specs.Shown.{fault_shown}
 use Rattle.bvd_report.specs.Report.{Told, Accepted, Refused, NoEmptyClause, AbsentCertificate, OutOfMemory}
 

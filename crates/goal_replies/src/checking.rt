@@ -1,17 +1,17 @@
 //! What `check` tells of a goal: what the certificate that is stored for it comes to.
-ghost use Rattle.std.specs.Prelude.{◌≡◌, ◌≤◌, ◌⊎◌, [], IfOk, OnErr};
-ghost use Rattle.bvd_host.specs.Causes.{Rose};
+ghost use Rattle.std.specs.Prelude.{◌≡◌, ◌≤◌, ◌⊎◌, [], IfOk};
+ghost use Rattle.bvd_host.specs.Causes.{Rose, HasCause};
 ghost use Rattle.bv_expr.specs.Propositional.{IsPropositional};
 ghost use Rattle.bv_lines.specs.Statement.{statement_of};
 ghost use Rattle.bvd_report.specs.Shown.{told_shown};
 ghost use Rattle.goal_replies.specs.Checked.{IsCheckedAs, IsChecked};
 ghost use Rattle.goal_replies.specs.Outcome.{checked_told};
 
+use crate::certificate::{CheckStop, Checked, check};
 use crate::decided::{truth_goal, truth_meant};
 use bv_expr::Goal;
-use bvd_host::keeper::Keeper;
+use bvd_host::Keeper;
 use bvd_report::told::Told;
-use cert_check::{Checked, DeviceFailed, check};
 use goal_alone::{FormulaStop, formula_of};
 use std::alloc::Global;
 
@@ -34,13 +34,12 @@ fn checked<K: Keeper>(
     keeper: &mut K,
     name: &str,
     goal: &Goal,
-) -> Result<Told, DeviceFailed>
+) -> Result<Told, CheckStop>
     requires { IsPropositional goal.now.hyps goal.now.concl }
     ensures told { IfOk result (λ told. IsCheckedAs (K.files keeper.old) (Rose (K.missing keeper.old) (K.missing keeper.new)) name.now (statement_of goal.now) goal.now.hyps goal.now.concl (told_shown told)) }
     ensures files { K.files keeper.new ≡ K.files keeper.old }
-    ensures faults { K.faults keeper.old ≤ K.faults keeper.new }
     ensures missing { K.missing keeper.old ≤ K.missing keeper.new }
-    ensures device { OnErr result (Rose (K.faults keeper.old) (K.faults keeper.new)) }
+    ensures cause { HasCause CheckStop.Failed (K.faults keeper.old) (K.faults keeper.new) result }
 {
     match formula_of(alloc, goal) {
         Ok(formula) => Ok(told_of(check(alloc, keeper, name, &formula.cnf)?)),
@@ -52,20 +51,19 @@ fn checked<K: Keeper>(
 
 /// What the certificate under a name comes to over a goal's clauses, or that these aren't made.
 ///
-/// Where it is accepted the goal is valid, whatever the keeper gave. The files stay as they are. `DeviceFailed` comes only
-/// where the keeper's count of faults rose. Cost: that of making the clauses and of the replay.
+/// Where it is accepted the goal is valid, whatever the keeper gave. The files stay as they are. `Failed` comes
+/// exactly where the keeper failed in this call. Cost: that of making the clauses and of the replay.
 pub fn told_check<K: Keeper>(
     alloc: Global,
     keeper: &mut K,
     name: &str,
     goal: &Goal,
-) -> Result<Told, DeviceFailed>
+) -> Result<Told, CheckStop>
     requires { (goal.now.binders ≡ []) ⊎ IsPropositional goal.now.hyps goal.now.concl }
     ensures told { IfOk result (λ told. IsChecked (K.files keeper.old) (Rose (K.missing keeper.old) (K.missing keeper.new)) name.now (statement_of goal.now) (told_shown told)) }
     ensures files { K.files keeper.new ≡ K.files keeper.old }
-    ensures faults { K.faults keeper.old ≤ K.faults keeper.new }
     ensures missing { K.missing keeper.old ≤ K.missing keeper.new }
-    ensures device { OnErr result (Rose (K.faults keeper.old) (K.faults keeper.new)) }
+    ensures cause { HasCause CheckStop.Failed (K.faults keeper.old) (K.faults keeper.new) result }
 {
     let Some(holds) = truth_meant(goal) else {
         return checked(alloc, keeper, name, goal);

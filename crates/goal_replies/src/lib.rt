@@ -1,8 +1,15 @@
 //! What is told of one goal, by each command: the answer of a search, what its stored certificate comes to, or its clauses.
 #![tactic(auto)]
 
-pub mod checking;
-pub mod clauses;
+mod certificate;
+mod checking;
+mod clauses;
 mod decided;
-pub mod laws;
-pub mod solving;
+mod laws;
+mod solving;
+
+pub use certificate::CheckStop;
+pub use checking::told_check;
+pub use clauses::told_clauses;
+pub use laws::kept_certificates_are_accepted;
+pub use solving::told_answer;

@@ -1,8 +1,9 @@
 -- From the answer of a replay to the verdict that the text comes to.
-use Rattle.std.proofs.Common.{◌≡◌, ◌⊎◌, inl, inr, ℕ, ◌-◌, ◌≤◌, ◌<◌, List, [], length, refl, sym, ap, ◌∙◌, subst, Some, None}
-use Rattle.std.specs.Prelude.{Option, option_map, unwrap_or, drop, Result, Ok, Err, ◌^◌, IfSome, IfOk}
+use Rattle.std.proofs.Common.{◌≡◌, ◌⊎◌, inl, inr, ℕ, ◌-◌, ◌≤◌, ◌<◌, List, [], length, arith, refl, sym, ap, ◌∙◌, subst, Some, None}
+use Rattle.std.specs.Prelude.{◌↔◌, Option, option_map, unwrap_or, drop, Result, Ok, Err, ◌^◌, IfSome, IfOk, IsErrOf}
 use Rattle.std.proofs.lemmas.Bool.{cases_lt}
 use Rattle.sat_form.specs.Literals.{Literal}
+use Rattle.bvd_host.specs.Causes.{HasCause}
 use Rattle.bvd_host.specs.Files.{Files, file_at}
 use Rattle.bvd_host.specs.Given.{left_at}
 use Rattle.lrat_lines.specs.Judge.{Cause}
@@ -12,11 +13,11 @@ use Rattle.lrat_replay.specs.Answer.{refusal, IsAnswerOn, IsAnswer, Answers, IsF
 use Rattle.lrat_replay.specs.declared.stop.ReplayStop.{ReplayStop}
 use Rattle.lrat_replay.specs.declared.stop.ReplayStop.TheVariants.{Bad, IdInUse, NoClause, NotUnit, NoConflict, MissingGroup, StrangeGroup, NoEmpty, TooLong, ReadFault, Memory}
 use Rattle.lrat_replay.specs.Shown.{fault_shown}
-use Rattle.cert_check.specs.Checked.{IsCertificate, IsReplayed, IsChecked}
-use Rattle.cert_check.specs.Told.{IsTold}
-use Rattle.cert_check.specs.declared.checked.DeviceFailed.{DeviceFailed}
-use Rattle.cert_check.specs.declared.checked.Checked.{Checked}
-use Rattle.cert_check.specs.declared.checked.Checked.TheVariants.{Accepted, Refused, NoEmptyClause, Absent, OutOfMemory}
+use Rattle.goal_replies.specs.Certificate.{IsCertificate, IsReplayed, IsOutcome, IsTold}
+use Rattle.goal_replies.specs.declared.certificate.CheckStop.{CheckStop}
+use Rattle.goal_replies.specs.declared.certificate.CheckStop.TheVariants.{Failed}
+use Rattle.goal_replies.specs.declared.certificate.Checked.{Checked}
+use Rattle.goal_replies.specs.declared.certificate.Checked.TheVariants.{Accepted, Refused, NoEmptyClause, Absent, OutOfMemory}
 
 -- the verdict that an answer stands for
 verdict_of : Result (Unit {0}) ReplayStop → Verdict
@@ -86,7 +87,7 @@ refused files name cs n (Because (Cause.MissingGroup id)) f = replayed files nam
 refused files name cs n (Because (Cause.StrangeGroup id)) f = replayed files name cs (Err (StrangeGroup n id)) (f tt)
 
 told_checked : (files : Option Files) (missing : Type 0) (name : List ℕ) (cs : List (List Literal)) (r : Result (Unit {0}) ReplayStop) (c : Checked)
-    → IsTold r c → Known files name cs r → IsChecked files missing name cs c
+    → IsTold r c → Known files name cs r → IsOutcome files missing name cs c
 told_checked files missing name cs r Accepted e f = accepted files name cs (subst (Known files name cs) e f)
 told_checked files missing name cs r (Refused n fault) e f = refused files name cs n (fault_shown fault) (subst (Known files name cs) e f)
 told_checked files missing name cs r NoEmptyClause e f = no_empty files name cs (subst (Known files name cs) e f)
@@ -94,19 +95,31 @@ told_checked files missing name cs r Absent e f = absurd e
 told_checked files missing name cs r OutOfMemory e f = tt
 
 -- what is told of it is what the certificate comes to
-pub checked_told : (before files : Option Files) (missing : Type 0) (name : List ℕ) (cs : List (List Literal)) (r : Result (Unit {0}) ReplayStop) (result : Result Checked DeviceFailed)
-    → before ≡ files → IfOk result (λ c. IsTold r c) → Known before name cs r → IfOk result (λ c. IsChecked files missing name cs c)
+pub checked_told : (before files : Option Files) (missing : Type 0) (name : List ℕ) (cs : List (List Literal)) (r : Result (Unit {0}) ReplayStop) (result : Result Checked CheckStop)
+    → before ≡ files → IfOk result (λ c. IsTold r c) → Known before name cs r → IfOk result (λ c. IsOutcome files missing name cs c)
 checked_told before files missing name cs r (Err e) same told known = tt
 checked_told before files missing name cs r (Ok c) same told known = told_checked files missing name cs r c told (subst (λ (o : Option Files). Known o name cs r) same known)
 
-known_of : (o : Option (List ℕ)) (size : ℕ) (cs : List (List Literal)) (r : Result (Unit {0}) ReplayStop) → option_map length o ≡ Some size
-    → Answers cs (2 ^ 64 - 1) (drop 0 (unwrap_or o [])) r → (bytes : List ℕ) × (o ≡ Some bytes) × Answers cs (2 ^ 64 - 1) bytes r
-known_of None size cs r there answers = absurd (cc)
-known_of (Some bytes) size cs r there answers = (bytes, refl, answers)
+known_of : (o : Option (List ℕ)) (size : ℕ) (cs : List (List Literal)) (r : Result (Unit {0}) ReplayStop) → size ≤ 2 ^ 64 - 1 → option_map length o ≡ Some size
+    → Answers cs (2 ^ 64 - 1) (drop 0 (unwrap_or o [])) r → (bytes : List ℕ) × ((o ≡ Some bytes) × (length bytes ≤ 2 ^ 64 - 1)) × Answers cs (2 ^ 64 - 1) bytes r
+known_of None size cs r few there answers = absurd (cc)
+known_of (Some bytes) size cs r few there answers =
+    let count : length bytes ≡ size = cc in
+    (bytes, (refl, omega arith), answers)
 
 -- a kept file's bytes are the certificate's
-pub known : (files : Option Files) (name : List ℕ) (size : ℕ) (cs : List (List Literal)) (r : Result (Unit {0}) ReplayStop)
+pub known : (files : Option Files) (name : List ℕ) (size : ℕ) (cs : List (List Literal)) (r : Result (Unit {0}) ReplayStop) → size ≤ 2 ^ 64 - 1
     → IfSome files (λ f. option_map length (file_at f name) ≡ Some size) → ((text : List ℕ) → left_at name 0 files ≡ Some text → Answers cs (2 ^ 64 - 1) text r)
     → (IsFromText r → (text : List ℕ) × Answers cs (2 ^ 64 - 1) text r) → Known files name cs r
-known None name size cs r there exact told from = let (text, answers) = told from in (text, tt, answers)
-known (Some f) name size cs r there exact told from = known_of (file_at f name) size cs r there (exact (drop 0 (unwrap_or (file_at f name) [])) refl)
+known None name size cs r few there exact told from = let (text, answers) = told from in (text, tt, answers)
+known (Some f) name size cs r few there exact told from = known_of (file_at f name) size cs r few there (exact (drop 0 (unwrap_or (file_at f name) [])) refl)
+
+-- the device failed exactly where a read of the replay did
+pub told_cause : (r : Result (Unit {0}) ReplayStop) (result : Result Checked CheckStop) (first before now : ℕ) → before ≡ first → (IsErrOf result Failed ↔ IsErrOf r ReadFault)
+    → HasCause ReadFault before now r → HasCause Failed first now result
+told_cause r result first before now same alike cause = record {
+  later = omega (arith, cause.later);
+  once = omega (arith, cause.once);
+  failed = λ is. rw (sym same) (cause.failed (alike.0 is));
+  spared = λ other. cause.spared (λ is. other (alike.1 is)) ∙ same;
+}
