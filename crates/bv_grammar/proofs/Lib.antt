@@ -7,3 +7,4 @@ pub mod Pushing
 pub mod Sound
 pub mod Counting
 pub mod Stepping
+pub mod Total

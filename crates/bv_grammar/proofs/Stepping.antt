@@ -110,7 +110,7 @@ passes_on ts n s old new l h =
     let same : (a : List Symbol) → opened new a ≡ opened old a = λ a. b.held a ∙ ap (λ v. v ++ opened old a) b.holds.0 in
     (omega (arith, length_after old new [] same), landed (same bottom) (then l (b.holds.1 ts n (opened old bottom) refl)))
 
-fault_at : {ts : List Terminal} {b : List Symbol} {n : ℕ} → n ≤ length ts → Leads ts file 0 b n → Dead ts b n → IsSyntaxFault ts n
+pub fault_at : {ts : List Terminal} {b : List Symbol} {n : ℕ} → n ≤ length ts → Leads ts file 0 b n → Dead ts b n → IsSyntaxFault ts n
 fault_at {n = n} h l dead = record {
   within = h;
   before = (_, l.derives);

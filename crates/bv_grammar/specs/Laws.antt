@@ -1,5 +1,5 @@
 -- What the grammar says of every file.
-use Rattle.std.specs.Prelude.{◌≡◌, ℕ, ◌<◌, List, ◌++◌, slice_get}
+use Rattle.std.specs.Prelude.{◌≡◌, ℕ, ◌<◌, List, ◌++◌, slice_get, ◌⊎◌}
 use Rattle.bv_grammar.specs.declared.words.Terminal.{Terminal}
 use Rattle.bv_grammar.specs.declared.words.Role.{Role}
 use Rattle.bv_grammar.specs.Grammar.{Symbol, Rule}
@@ -10,6 +10,10 @@ use Rattle.bv_grammar.specs.Taking.{IsTakenAs}
 -- and with whatever behind it.
 abbrev pub OneRule : Symbol → List Symbol → List Symbol → Type 0
 OneRule s r r' = Rule s r → Rule s r' → (ts us : List Terminal) (a a' b b' : List Symbol) (i j m n : ℕ) → slice_get ts i ≡ slice_get us j → i < m → Derives ts (r ++ a) i b m → j < n → Derives us (r' ++ a') j b' n → r ≡ r'
+
+-- A file is derived whole or has a syntax fault.
+abbrev pub WholeOrFault : List Terminal → Type 0
+WholeOrFault ts = IsFile ts ⊎ ((at : ℕ) × IsSyntaxFault ts at)
 
 -- A file that is derived whole has no syntax fault.
 abbrev pub NotBoth : List Terminal → ℕ → Type 0

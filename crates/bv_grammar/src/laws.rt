@@ -5,7 +5,7 @@ ghost use Rattle.std.specs.Prelude.{ℕ, List};
 ghost use Rattle.bv_grammar.specs.declared.words.Terminal.{Terminal};
 ghost use Rattle.bv_grammar.specs.declared.words.Role.{Role};
 ghost use Rattle.bv_grammar.specs.Grammar.{Symbol};
-ghost use Rattle.bv_grammar.specs.Laws.{OneRule, NotBoth, OneFault, OneRole};
+ghost use Rattle.bv_grammar.specs.Laws.{OneRule, WholeOrFault, NotBoth, OneFault, OneRole};
 
 /// The next terminal tells which rule a symbol is replaced by: the grammar is LL(1).
 pub fn one_terminal_tells_the_rule()
@@ -14,6 +14,7 @@ pub fn one_terminal_tells_the_rule()
 
 /// A file is derived whole or has a syntax fault, not both, and the fault has one place.
 pub fn whole_or_fault()
+    ensures one_of_both { (ts : List Terminal) → WholeOrFault ts }
     ensures not_both { (ts : List Terminal) (at : ℕ) → NotBoth ts at }
     ensures one_fault { (ts : List Terminal) (at at' : ℕ) → OneFault ts at at' }
 {}
