@@ -1,18 +1,16 @@
 //! From the command line to the exit status, over a keeper and a sink that are handed in: what the program does is said here, and `main` adds the real devices alone.
-ghost use Rattle.std.specs.Prelude.{◌≡◌, ◌≢◌, ◌⊎◌, ℕ, List, drop, IfOk, IfErr};
+ghost use Rattle.std.specs.Prelude.{◌≡◌, ◌≢◌, ℕ, List, drop, IfOk, IfErr};
 ghost use Rattle.std.specs.IoError.{error_kind};
 ghost use Rattle.std.specs.Process.{exit_status};
 ghost use Rattle.std.specs.Vec.Iter.{into_iter_items};
-ghost use Rattle.bvd_host.specs.Causes.{Rose};
 ghost use Rattle.bvd_host.specs.Files.{Files};
 ghost use Rattle.bvd_host.specs.Outside.{outside, CountsStay, IsHonest};
 ghost use Rattle.bvd_words.specs.Requests.{request_of};
-ghost use Rattle.bvd_top.specs.Ending.{Ending, Does};
+ghost use Rattle.bvd_top.specs.Ending.{Ending, Does, IsFaultTold};
 ghost use Rattle.bvd.specs.Given.{words_given};
 
-use bvd_host::keeper::Keeper;
-use bvd_host::sink::Sink;
-use bvd_top::run::run_single;
+use bvd_host::{Keeper, Sink};
+use bvd_top::run_single;
 use std::alloc::{AllocError, Global};
 use std::env::Args;
 use std::io;
@@ -47,8 +45,8 @@ pub fn answer<K: Keeper, S: Sink>(
     ensures done { (files : Files) (text : List ℕ) → IsHonest (outside K.files K.faults K.missing S.written S.faults keeper.old out.old) (outside K.files K.faults K.missing S.written S.faults keeper.new out.new) files text
         → exit_status result ≢ 7 → Does (request_of (words_given args)) files text (outside K.files K.faults K.missing S.written S.faults keeper.new out.new) (exit_status result) }
 
-    // A device failed only where a count rose.
-    ensures device { exit_status result ≡ 6 → Rose (K.faults keeper.old) (K.faults keeper.new) ⊎ Rose (S.faults out.old) (S.faults out.new) }
+    // A device's fault ends the run at once, with its own status.
+    ensures device { IsFaultTold (outside K.files K.faults K.missing S.written S.faults keeper.old out.old) (outside K.files K.faults K.missing S.written S.faults keeper.new out.new) (exit_status result) }
 
     // The usage's status comes only for words that are refused.
     ensures words { exit_status result ≡ 2 → request_of (words_given args) ≡ None }

@@ -3,8 +3,7 @@
 
 mod command_line;
 
-use bvd_host::disk_keeper::DiskKeeper;
-use bvd_host::stdout_sink::StdoutSink;
+use bvd_host::{DiskKeeper, StdoutSink};
 use command_line::answer;
 use std::env;
 use std::process::ExitCode;

@@ -6,7 +6,7 @@ ghost use Rattle.bvd_report.specs.Shown.{lines_shown, found_shown, parts_shown};
 
 use crate::goal_line::push_goal;
 use crate::told::{Found, Line, Part, goals_of};
-use bvd_words::request::Command;
+use bvd_words::Command;
 use std::io;
 use std::io::Write;
 

@@ -7,7 +7,7 @@ ghost use Rattle.lrat_replay.specs.Shown.{fault_shown};
 ghost use Rattle.bvd_report.specs.Shown.{told_shown, line_shown};
 
 use crate::told::{Line, Told};
-use bvd_words::request::Command;
+use bvd_words::Command;
 use lrat_judge::Cause;
 use lrat_replay::Fault;
 use std::alloc::{AllocError, Global};

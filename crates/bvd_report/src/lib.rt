@@ -2,10 +2,15 @@
 #![tactic(auto)]
 
 mod file_lines;
-pub mod goal_line;
-pub mod report;
-pub mod status;
+mod goal_line;
+mod reporting;
+mod status;
 mod summary;
 #[cfg(test)]
 mod tests;
-pub mod told;
+mod told;
+
+pub use goal_line::certificate_name;
+pub use reporting::report;
+pub use status::status_of;
+pub use told::{Found, Line, Part, Told, goals_of};

@@ -5,7 +5,7 @@ ghost use Rattle.bvd_report.specs.Report.{verdict_of, same_verdict, count_of, co
 ghost use Rattle.bvd_report.specs.Shown.{told_shown, lines_shown, parts_shown, verdict_shown};
 
 use crate::told::{Line, Part, Told, goals_of};
-use bvd_words::request::Command;
+use bvd_words::Command;
 use std::io;
 use std::io::Write;
 

@@ -1,9 +1,6 @@
 //! The printed lines of each command, with ample memory. The texts are written by hand from the format.
-use crate::goal_line::certificate_name;
-use crate::report::report;
-use crate::status::status_of;
-use crate::told::{Found, Line, Part, Told};
-use bvd_words::request::{Command, Request};
+use crate::{Found, Line, Part, Told, certificate_name, report, status_of};
+use bvd_words::{Command, Request};
 use lrat_judge::Cause;
 use lrat_replay::Fault;
 use std::alloc::{AllocError, Global};

@@ -1,5 +1,5 @@
 -- The certificates of a run stay under their names, and the other files stay as they were.
-use Rattle.std.proofs.Common.{◌≡◌, ℕ, suc, ◌+◌, ◌-◌, ◌<◌, ◌≤◌, ◌^◌, Bool, true, false, cond, List, [], ◌∷◌, ◌++◌, length, refl, sym, ap, ◌∙◌, arith, Some}
+use Rattle.std.proofs.Common.{◌≡◌, ℕ, suc, ◌+◌, ◌<◌, ◌≤◌, ◌^◌, Bool, true, false, cond, List, [], ◌∷◌, ◌++◌, length, refl, sym, ap, ◌∙◌, arith, Some}
 use Rattle.std.specs.Prelude.{⊤, All, codes, decimal}
 use Rattle.std.specs.Ordering.{nat_cmp, is_eq, eq_by_cmp}
 use Rattle.std.specs.Cmp.Lexicographic.{slice_cmp, nat_list_cmp_total}
@@ -60,28 +60,23 @@ earlier_stays j k (line ∷ lines) f lt small =
 
 -- where a goal is told proved, the file of its certificate holds the text
 abbrev pub IsKept : Files → ℕ → Told → Type 0
-IsKept files k (Proved text) = (file_at files (certificate_name k) ≡ Some text) × (length text ≤ 2 ^ 64 - 1)
+IsKept files k (Proved text) = file_at files (certificate_name k) ≡ Some text
 IsKept files k told = ⊤
 
 abbrev pub AreKept : Files → ℕ → List Line → Type 0
 AreKept files k [] = ⊤
 AreKept files k (line ∷ lines) = IsKept files k line.told × AreKept files (k + 1) lines
 
-kept_line : (line : Line) (lines : List Line) (k : ℕ) (f : Files) (told : Told) → k + suc (length lines) ≤ 2 ^ 64
-    → ((g : Files) → All (λ file. length file.1 ≤ 2 ^ 64 - 1) (certificates_from (k + 1) lines) → AreKept (with_all (certificates_from (k + 1) lines) g) (k + 1) lines)
-    → All (λ file. length file.1 ≤ 2 ^ 64 - 1) (with_certificate k told (certificates_from (k + 1) lines))
+kept_line : (lines : List Line) (k : ℕ) (f : Files) (told : Told) → k + suc (length lines) ≤ 2 ^ 64
+    → ((g : Files) → AreKept (with_all (certificates_from (k + 1) lines) g) (k + 1) lines)
     → IsKept (with_all (with_certificate k told (certificates_from (k + 1) lines)) f) k told × AreKept (with_all (with_certificate k told (certificates_from (k + 1) lines)) f) (k + 1) lines
-kept_line line lines k f (Proved text) small rest fit = (
-  (
-    earlier_stays k (k + 1) lines (with_file f (certificate_name k) text) (omega arith) (omega arith) ∙ there f (certificate_name k) text,
-    All-head (λ (file : List ℕ × List ℕ). length file.1 ≤ 2 ^ 64 - 1) (certificate_name k, text) (certificates_from (k + 1) lines) fit,
-  ),
-  rest (with_file f (certificate_name k) text) (All-tail (λ (file : List ℕ × List ℕ). length file.1 ≤ 2 ^ 64 - 1) (certificate_name k, text) (certificates_from (k + 1) lines) fit),
+kept_line lines k f (Proved text) small rest = (
+  earlier_stays k (k + 1) lines (with_file f (certificate_name k) text) (omega arith) (omega arith) ∙ there f (certificate_name k) text,
+  rest (with_file f (certificate_name k) text),
 )
-kept_line line lines k f told small rest fit = (tt, rest f fit)
+kept_line lines k f told small rest = (tt, rest f)
 
 -- all certificates that a run writes are there behind it
-pub all_kept : (lines : List Line) (k : ℕ) (f : Files) → k + length lines ≤ 2 ^ 64 → All (λ file. length file.1 ≤ 2 ^ 64 - 1) (certificates_from k lines)
-    → AreKept (with_all (certificates_from k lines) f) k lines
-all_kept [] k f small fit = tt
-all_kept (line ∷ lines) k f small fit = kept_line line lines k f line.told small (λ g h. all_kept lines (k + 1) g (omega arith) h) fit
+pub all_kept : (lines : List Line) (k : ℕ) (f : Files) → k + length lines ≤ 2 ^ 64 → AreKept (with_all (certificates_from k lines) f) k lines
+all_kept [] k f small = tt
+all_kept (line ∷ lines) k f small = kept_line lines k f line.told small (λ g. all_kept lines (k + 1) g (omega arith))

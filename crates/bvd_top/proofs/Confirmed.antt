@@ -74,7 +74,7 @@ solved Cnf steps files missing k goal told solving is = absurd solving
 confirmed : (law : KeptCertificateIsAccepted) (steps : ℕ) (final : Files) (missing : Type 0) (k : ℕ) (goal : Statement) (told later : Told)
     → IsSolved steps goal told → IsKept final k told → IsChecked (Some final) missing (certificate_name k) goal later → IsConfirmed told later
 confirmed law steps final missing k goal (Proved text) later is kept checked =
-    law steps goal text final 0 0 (certificate_name k) later is kept.0 kept.1 (checked_told final missing (Rose 0 0) (certificate_name k) goal later checked)
+    law steps goal text final 0 0 (certificate_name k) later is kept (checked_told final missing (Rose 0 0) (certificate_name k) goal later checked)
 confirmed law steps final missing k goal told later is kept checked = tt
 
 all_confirmed : (law : KeptCertificateIsAccepted) (request check : Request) (files final : Files) (m n : Type 0) (k : ℕ) (goals : List Statement) (lines laters : List Line)
@@ -109,4 +109,4 @@ later_accepts law missing missing_later request check files parts checked is =
     let few = few_stated files missing request.files is.run.0 is.run.1 in
     let small : 1 + length (all_goals parts) ≤ 2 ^ 64 = omega (arith, count, few, is.few) in
     all_confirmed law request check files final missing missing_later 1 (all_stated is.run.0) (all_goals parts) (all_goals checked) is.solves is.checks told behind
-    (all_kept (all_goals parts) 1 files small is.fit)
+    (all_kept (all_goals parts) 1 files small)

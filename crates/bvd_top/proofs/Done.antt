@@ -3,7 +3,7 @@ use Rattle.std.proofs.Common.{◌≡◌, ◌⊎◌, inl, inr, ℕ, ◌+◌, ◌�
 use Rattle.std.specs.Prelude.{Option, option_map}
 use Rattle.bvd_host.specs.Files.{Files}
 use Rattle.bvd_host.specs.Causes.{Rose}
-use Rattle.bvd_host.specs.Outside.{Outside, KeeperFailed, SinkFailed, IsHonest}
+use Rattle.bvd_host.specs.Outside.{Outside, SinkFailed, IsHonest}
 use Rattle.bv_lines.specs.Statement.{Statement}
 use Rattle.bvd_words.specs.Requests.{Command, Prove, Alone, Check, Cnf, Request}
 use Rattle.bvd_report.specs.Report.{Told, Proved, False, Budget, Deep, Large, OutOfMemory, Clauses, Accepted, Refused, NoEmptyClause, AbsentCertificate, Line, Found, Part, certificate_name, goals_of, report, certificates, status_of, found_status, goals_status, told_status}
@@ -13,16 +13,16 @@ use Rattle.bvd_top.specs.Stated.{Stated, Absent, NotYet, Goals, Read, AreRead}
 use Rattle.bvd_top.specs.Told.{IsTold, AreTold}
 use Rattle.bvd_top.specs.Parts.{IsFound, AreFound, ArePartsOf}
 use Rattle.bvd_top.proofs.Checked.{checked_told}
-use Rattle.bvd_top.specs.Ending.{Stops, Tells, AnsweredIf, Does}
+use Rattle.bvd_top.specs.Ending.{Stops, Tells, Untold, AnsweredIf, Does, IsFaultTold}
 
-not_stopped : (F : Type 0) (status : ℕ) → ¬ F → status ≢ 7 → Stops F status → ⊥
-not_stopped F status holds seven (inl s) = holds s.1
-not_stopped F status holds seven (inr s) = seven s
+not_stopped : (before now status : ℕ) → ¬ (Rose before now) → status ≢ 7 → Stops before now status → ⊥
+not_stopped before now status holds seven (inl s) = holds s.1.rose
+not_stopped before now status holds seven (inr s) = seven s.0
 
 whole : (text added : List ℕ) (own status : ℕ) (before after : Outside) → before.written ≡ Some text → ¬ (SinkFailed before after) → status ≢ 7 → Tells added own before after status
     → (after.written ≡ Some (text ++ added)) × (status ≡ own)
 whole text added own status before after told holds seven (inl t) = (t.0 ∙ ap (option_map (λ w. w ++ added)) told, t.1)
-whole text added own status before after told holds seven (inr t) = absurd (not_stopped (SinkFailed before after) status holds seven t.2)
+whole text added own status before after told holds seven (inr t) = absurd (not_stopped before.sink_faults after.sink_faults status holds seven t.3)
 
 -- where the files are told, nothing hangs on missing files
 reads_told : (files : Files) (m n : Type 0) (names : List (List ℕ)) (reads : List Read) → AreRead (Some files) m names reads → AreRead (Some files) n names reads
@@ -68,8 +68,8 @@ pub done : (o : Option Request) (files : Files) (text : List ℕ) (before after 
 done None files text before after status honest seven r =
     let t = whole text usage 2 status before after honest.written_told honest.sink_holds seven r.tells in
     record { told = t.0; stored = r.files_stay ∙ honest.files_told; answered = t.1 }
-done (Some request) files text before after status honest seven (inl u) = absurd (not_stopped (KeeperFailed before after) status honest.keeper_holds seven u.stops)
-done (Some request) files text before after status honest seven (inr (inl u)) = absurd (not_stopped (KeeperFailed before after) status honest.keeper_holds seven u.stops)
+done (Some request) files text before after status honest seven (inl u) = absurd (not_stopped before.keeper_faults after.keeper_faults status honest.keeper_holds seven u.stops)
+done (Some request) files text before after status honest seven (inr (inl u)) = absurd (not_stopped before.keeper_faults after.keeper_faults status honest.keeper_holds seven u.stops)
 done (Some request) files text before after status honest seven (inr (inr r)) =
     let missing = Rose before.missing after.missing in
     let t = whole text (report request r.parts) (status_of r.parts) status before after honest.written_told honest.sink_holds seven r.tells in (
@@ -142,30 +142,54 @@ never_two : (n : ℕ) → (n ≤ 1) ⊎ (3 ≤ n) → n ≢ 2
 never_two n (inl h) e = omega arith
 never_two n (inr h) e = omega arith
 
-stops_at : (F : Type 0) (status : ℕ) → Stops F status → status ≡ 6 → F
-stops_at F status (inl s) e = s.1
-stops_at F status (inr s) e = absurd (omega arith)
+-- the keeper's faults are told, where the sink isn't asked
+keeper_told : (before after : Outside) (status : ℕ) → Untold before after → Stops before.keeper_faults after.keeper_faults status → IsFaultTold before after status
+keeper_told before after status untold (inl s) = record {
+  failed = λ e. inl s.1.rose;
+  once = omega (arith, s.1.once, untold.sink_stays);
+  spared = λ other. absurd (other s.0);
+}
+keeper_told before after status untold (inr s) = record {
+  failed = λ e. absurd (omega (arith, e, s.0));
+  once = omega (arith, s.1, untold.sink_stays);
+  spared = λ other. (s.1, untold.sink_stays);
+}
 
-tells_device : (added : List ℕ) (own status : ℕ) (before after : Outside) → own ≢ 6 → Tells added own before after status → status ≡ 6 → SinkFailed before after
-tells_device added own status before after not (inl t) e = absurd (not (sym t.1 ∙ e))
-tells_device added own status before after not (inr t) e = stops_at (SinkFailed before after) status t.2 e
+-- the sink's faults are told, where the keeper hasn't failed
+sink_told : (text : List ℕ) (own : ℕ) (before after : Outside) (status : ℕ) → own ≢ 6 → after.keeper_faults ≡ before.keeper_faults → Tells text own before after status → IsFaultTold before after status
+sink_told text own before after status apart kept (inl t) = record {
+  failed = λ e. absurd (apart (sym t.1 ∙ e));
+  once = omega (arith, t.2, kept);
+  spared = λ other. (kept, t.2);
+}
+sink_told text own before after status apart kept (inr (n, part, written, inl s)) = record {
+  failed = λ e. inr s.1.rose;
+  once = omega (arith, s.1.once, kept);
+  spared = λ other. absurd (other s.0);
+}
+sink_told text own before after status apart kept (inr (n, part, written, inr s)) = record {
+  failed = λ e. absurd (omega (arith, e, s.0));
+  once = omega (arith, s.1, kept);
+  spared = λ other. (kept, s.1);
+}
 
-pub device : (o : Option Request) (before after : Outside) (status : ℕ) → AnsweredIf o before after status → status ≡ 6 → KeeperFailed before after ⊎ SinkFailed before after
-device None before after status r e = inr (tells_device usage 2 status before after (λ k. omega arith) r.tells e)
-device (Some request) before after status (inl u) e = inl (stops_at (KeeperFailed before after) status u.stops e)
-device (Some request) before after status (inr (inl u)) e = inl (stops_at (KeeperFailed before after) status u.stops e)
-device (Some request) before after status (inr (inr r)) e = inr (tells_device (report request r.parts) (status_of r.parts) status before after (never_six (status_of r.parts) (parts_own r.parts).below) r.tells e)
+pub device : (o : Option Request) (before after : Outside) (status : ℕ) → AnsweredIf o before after status → IsFaultTold before after status
+device None before after status r = sink_told usage 2 before after status (λ e. omega arith) r.keeper_stays r.tells
+device (Some request) before after status (inl u) = keeper_told before after status u.untold u.stops
+device (Some request) before after status (inr (inl u)) = keeper_told before after status u.untold u.stops
+device (Some request) before after status (inr (inr r)) =
+    sink_told (report request r.parts) (status_of r.parts) before after status (never_six (status_of r.parts) (parts_own r.parts).below) r.keeper_stays r.tells
 
-stops_not : (F : Type 0) (status : ℕ) → Stops F status → status ≢ 2
-stops_not F status (inl s) e = omega arith
-stops_not F status (inr s) e = omega arith
+stops_not : (before now status : ℕ) → Stops before now status → status ≢ 2
+stops_not before now status (inl s) e = omega (arith, e, s.0)
+stops_not before now status (inr s) e = omega (arith, e, s.0)
 
 tells_not : (added : List ℕ) (own status : ℕ) (before after : Outside) → own ≢ 2 → Tells added own before after status → status ≢ 2
-tells_not added own status before after not (inl t) e = not (sym t.1 ∙ e)
-tells_not added own status before after not (inr t) e = stops_not (SinkFailed before after) status t.2 e
+tells_not added own status before after apart (inl t) e = apart (sym t.1 ∙ e)
+tells_not added own status before after apart (inr t) e = stops_not before.sink_faults after.sink_faults status t.3 e
 
 pub words : (o : Option Request) (before after : Outside) (status : ℕ) → AnsweredIf o before after status → status ≡ 2 → o ≡ None
 words None before after status r e = refl
-words (Some request) before after status (inl u) e = absurd (stops_not (KeeperFailed before after) status u.stops e)
-words (Some request) before after status (inr (inl u)) e = absurd (stops_not (KeeperFailed before after) status u.stops e)
+words (Some request) before after status (inl u) e = absurd (stops_not before.keeper_faults after.keeper_faults status u.stops e)
+words (Some request) before after status (inr (inl u)) e = absurd (stops_not before.keeper_faults after.keeper_faults status u.stops e)
 words (Some request) before after status (inr (inr r)) e = absurd (tells_not (report request r.parts) (status_of r.parts) status before after (never_two (status_of r.parts) (parts_own r.parts).apart) r.tells e)

@@ -1,5 +1,5 @@
 -- How a run ends, by the order of its steps: the words, the files, the certificates, the report.
-use Rattle.std.specs.Prelude.{◌≡◌, ◌⊎◌, ℕ, List, [], ◌++◌, take, Option, Some, None, option_map, Result, Ok, Err}
+use Rattle.std.specs.Prelude.{◌≡◌, ◌≢◌, ◌⊎◌, ℕ, ◌+◌, ◌<◌, ◌≤◌, List, [], ◌++◌, length, take, Option, Some, None, option_map, Result, Ok, Err}
 use Rattle.bvd_host.specs.Files.{Files}
 use Rattle.bvd_host.specs.Causes.{Rose}
 use Rattle.bvd_host.specs.Outside.{Outside, KeeperFailed, SinkFailed}
@@ -11,44 +11,58 @@ use Rattle.bvd_report.specs.Report.{Part, report, certificates, status_of}
 use Rattle.bvd_top.specs.Storing.{IsPartlyStored, with_all}
 use Rattle.bvd_top.specs.Parts.{ArePartsOf}
 
--- the run stops early: a device failed, or memory was wanting
-abbrev pub Stops : Type 0 → ℕ → Type 0
-Stops failed status = ((status ≡ 6) × failed) ⊎ (status ≡ 7)
+-- a count rose by one, or stands at its end
+pub record RoseOnce (before now : ℕ) : Type 0 where
+  pub rose : Rose before now
+  pub later : before ≤ now
+  pub once : now ≤ before + 1
 
--- a text is written whole and the run ends with its own status, or a beginning of the text is written and the run stops
+-- the run stops early: the device with these counts of faults failed, or memory was wanting
+abbrev pub Stops : (before now status : ℕ) → Type 0
+Stops before now status = ((status ≡ 6) × RoseOnce before now) ⊎ ((status ≡ 7) × (now ≡ before))
+
+-- a text is written whole and the run ends with its own status, or the run stops where only a part of it is written
 abbrev pub Tells : List ℕ → ℕ → Outside → Outside → ℕ → Type 0
 Tells text own before after status =
-    ((after.written ≡ option_map (λ w. w ++ text) before.written) × (status ≡ own))
-    ⊎ ((n : ℕ) × (after.written ≡ option_map (λ w. w ++ take n text) before.written) × Stops (SinkFailed before after) status)
+    ((after.written ≡ option_map (λ w. w ++ text) before.written) × (status ≡ own) × (after.sink_faults ≡ before.sink_faults))
+    ⊎ ((n : ℕ) × (n < length text) × (after.written ≡ option_map (λ w. w ++ take n text) before.written) × Stops before.sink_faults after.sink_faults status)
+
+-- nothing is asked of the sink
+pub record Untold (before after : Outside) : Type 0 where
+  pub nothing_told : after.written ≡ before.written
+  pub sink_stays : after.sink_faults ≡ before.sink_faults
 
 -- a file, or a stored certificate that is asked for, isn't read to its end
 pub record Unread (before after : Outside) (status : ℕ) : Type 0 where
   pub files_stay : after.files ≡ before.files
-  pub nothing_told : after.written ≡ before.written
-  pub stops : Stops (KeeperFailed before after) status
+  pub untold : Untold before after
+  pub stops : Stops before.keeper_faults after.keeper_faults status
 
 -- a certificate isn't written to its end; those before it are, and those behind it aren't begun
 pub record Unstored (request : Request) (before after : Outside) (status : ℕ) : Type 0 where
   pub parts : List Part
   pub found : ArePartsOf before.files (Rose before.missing after.missing) request parts
   pub stored : (after.files ≡ before.files) ⊎ IsPartlyStored (certificates parts) before.files after.files
-  pub nothing_told : after.written ≡ before.written
-  pub stops : Stops (KeeperFailed before after) status
+  pub untold : Untold before after
+  pub stops : Stops before.keeper_faults after.keeper_faults status
 
--- all certificates are written, and the report or a beginning of it
+-- all certificates are written, and the report or a part of it
 pub record Reported (request : Request) (before after : Outside) (status : ℕ) : Type 0 where
   pub parts : List Part
   pub found : ArePartsOf before.files (Rose before.missing after.missing) request parts
   pub stored : after.files ≡ option_map (with_all (certificates parts)) before.files
+  pub keeper_stays : after.keeper_faults ≡ before.keeper_faults
   pub tells : Tells (report request parts) (status_of parts) before after status
 
 -- how the run of a request ends
 abbrev pub Answered : Request → Outside → Outside → ℕ → Type 0
 Answered request before after status = Unread before after status ⊎ (Unstored request before after status ⊎ Reported request before after status)
 
--- the words are refused, and nothing is read
+-- the words are refused, and the keeper stays as it was
 pub record Refused (before after : Outside) (status : ℕ) : Type 0 where
   pub files_stay : after.files ≡ before.files
+  pub keeper_stays : after.keeper_faults ≡ before.keeper_faults
+  pub missing_stays : after.missing ≡ before.missing
   pub tells : Tells usage 2 before after status
 
 abbrev pub AnsweredIf : Option Request → Outside → Outside → ℕ → Type 0
@@ -58,6 +72,13 @@ AnsweredIf (Some request) before after status = Answered request before after st
 -- how a run ends
 abbrev pub Ending : List (List ℕ) → Outside → Outside → ℕ → Type 0
 Ending words before after status = AnsweredIf (request_of words) before after status
+
+-- A device that failed ends the run at once with 6: then a count of faults rose, or stands at its end, and both together
+-- rose by one at most; with another status both stay.
+pub record IsFaultTold (before after : Outside) (status : ℕ) : Type 0 where
+  pub failed : status ≡ 6 → KeeperFailed before after ⊎ SinkFailed before after
+  pub once : after.keeper_faults + after.sink_faults ≤ before.keeper_faults + before.sink_faults + 1
+  pub spared : status ≢ 6 → (after.keeper_faults ≡ before.keeper_faults) × (after.sink_faults ≡ before.sink_faults)
 
 abbrev pub status_in : Result ℕ Stop → ℕ
 status_in (Ok status) = status

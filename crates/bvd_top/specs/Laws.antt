@@ -1,5 +1,5 @@
 -- What the runs of the commands say of one another.
-use Rattle.std.specs.Prelude.{◌≡◌, ◌⊎◌, ◌≤◌, ◌-◌, ◌^◌, List, [], ◌∷◌, Some, ⊤, length, All, Contains}
+use Rattle.std.specs.Prelude.{◌≡◌, ◌⊎◌, ◌≤◌, List, [], ◌∷◌, Some, ⊤, length, All, Contains}
 use Rattle.bvd_host.specs.Files.{Files}
 use Rattle.bvd_words.specs.Requests.{Command, Prove, Alone, Check, Cnf, Request}
 use Rattle.bvd_report.specs.Report.{Told, Proved, Accepted, OutOfMemory, Line, Part, all_goals, certificates}
@@ -37,8 +37,6 @@ pub record IsCheckedBehind (missing missing_later : Type 0) (request check : Req
   pub run_behind : ArePartsOf (Some (with_all (certificates parts) files)) missing_later check checked
   -- no certificate has the name of a theorem file
   pub apart : All (λ file. ¬ (Contains request.files file.0)) (certificates parts)
-  -- each certificate has fewer bytes than 2 ^ 64
-  pub fit : All (λ file. length file.1 ≤ 2 ^ 64 - 1) (certificates parts)
 
 -- What a run proved is accepted by a check of the same files behind it, goal by goal.
 abbrev pub LaterCheckAccepts : (missing missing_later : Type 0) → Type 0

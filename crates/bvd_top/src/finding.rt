@@ -1,6 +1,6 @@
 //! What the files of a run state. All files are read before the first goal is replied to.
 ghost use Rattle.std.specs.Prelude.{◌≡◌, ◌≤◌, All, map, length, Some, IfOk, IsErrOf};
-ghost use Rattle.bvd_host.specs.Causes.{Rose};
+ghost use Rattle.bvd_host.specs.Causes.{Rose, HasCause};
 ghost use Rattle.bvd_top.specs.Stated.{stated_in, IsStated, IsSmall, AreRead};
 ghost use Rattle.bvd_top.specs.Shown.{stated_shown, reads_shown};
 ghost use Rattle.bvd_top.specs.Decided.{AreDecidable};
@@ -9,7 +9,7 @@ use crate::keeping::keep;
 use crate::reading::{FileRead, read_file};
 use crate::stop::Stop;
 use bv_expr::Goal;
-use bvd_host::keeper::Keeper;
+use bvd_host::Keeper;
 use goal_files::file;
 use std::alloc::{AllocError, Global};
 
@@ -46,9 +46,8 @@ fn find<K: Keeper>(alloc: Global, keeper: &mut K, name: &str) -> Result<Stated, 
     ensures small { IfOk result (λ s. IsSmall (stated_shown s)) }
     ensures decidable { IfOk result AreDecidable }
     ensures files { K.files keeper.new ≡ K.files keeper.old }
-    ensures faults { K.faults keeper.old ≤ K.faults keeper.new }
     ensures missing { K.missing keeper.old ≤ K.missing keeper.new }
-    ensures device { IsErrOf result Stop.Device → Rose (K.faults keeper.old) (K.faults keeper.new) }
+    ensures cause { HasCause Stop.Device (K.faults keeper.old) (K.faults keeper.new) result }
 {
     match read_file(alloc, keeper, name, file::MOST_BYTES as u64)? {
         FileRead::Absent => Ok(Stated::Absent),
@@ -69,9 +68,8 @@ pub fn find_all<'a, K: Keeper>(
     ensures small { IfOk result (λ reads. All (λ r. IsSmall (stated_shown r.stated)) reads.items) }
     ensures decidable { IfOk result (λ reads. All (λ r. AreDecidable r.stated) reads.items) }
     ensures files { K.files keeper.new ≡ K.files keeper.old }
-    ensures faults { K.faults keeper.old ≤ K.faults keeper.new }
     ensures missing { K.missing keeper.old ≤ K.missing keeper.new }
-    ensures device { IsErrOf result Stop.Device → Rose (K.faults keeper.old) (K.faults keeper.new) }
+    ensures cause { HasCause Stop.Device (K.faults keeper.old) (K.faults keeper.new) result }
 {
     let mut reads = Vec::new(alloc);
     'names: for name in names {

@@ -1,11 +1,11 @@
 //! Files are read from a keeper, in pieces, up to the size that they have when they are opened.
 ghost use Rattle.std.specs.Prelude.{◌≡◌, ◌+◌, ◌<◌, ◌≤◌, length, vec_len, option_map, Some, IfSome, IfOk, OnOk, IsErrOf};
 ghost use Rattle.bvd_host.specs.Files.{file_at};
-ghost use Rattle.bvd_host.specs.Causes.{Rose};
+ghost use Rattle.bvd_host.specs.Causes.{Rose, HasCause};
 ghost use Rattle.bvd_top.specs.Reading.{IsFrontOf, IsRead};
 
 use crate::stop::Stop;
-use bvd_host::keeper::{KeepStop, Keeper};
+use bvd_host::{KeepStop, Keeper};
 use std::alloc::Global;
 
 /// What was read of a file: it isn't there, it has more bytes than are asked for (and wasn't read), or its bytes.
@@ -30,9 +30,8 @@ fn read_piece<K: Keeper>(
     ensures most { OnOk result (vec_len bytes.new ≤ size) }
     ensures some { IfSome (K.files keeper.old) (λ _. IfOk result (λ n. 0 < n)) }
     ensures files { K.files keeper.new ≡ K.files keeper.old }
-    ensures faults { K.faults keeper.old ≤ K.faults keeper.new }
     ensures missing { K.missing keeper.old ≤ K.missing keeper.new }
-    ensures device { IsErrOf result Stop.Device → Rose (K.faults keeper.old) (K.faults keeper.new) }
+    ensures cause { HasCause Stop.Device (K.faults keeper.old) (K.faults keeper.new) result }
 {
     let mut piece = [0u8; 4096];
     let at = bytes.len();
@@ -59,9 +58,8 @@ fn read_bytes<K: Keeper>(
     ensures bytes { IfSome (K.files keeper.old) (λ f. IfOk result (λ v. file_at f name.now ≡ Some v.items)) }
     ensures most { IfOk result (λ v. vec_len v ≤ size) }
     ensures files { K.files keeper.new ≡ K.files keeper.old }
-    ensures faults { K.faults keeper.old ≤ K.faults keeper.new }
     ensures missing { K.missing keeper.old ≤ K.missing keeper.new }
-    ensures device { IsErrOf result Stop.Device → Rose (K.faults keeper.old) (K.faults keeper.new) }
+    ensures cause { HasCause Stop.Device (K.faults keeper.old) (K.faults keeper.new) result }
 {
     let mut bytes = Vec::new(alloc);
     'pieces: while (bytes.len() as u64) < size {
@@ -82,9 +80,8 @@ pub fn read_file<K: Keeper>(
 ) -> Result<FileRead, Stop>
     ensures read { IfOk result (λ r. IsRead most (K.files keeper.old) (Rose (K.missing keeper.old) (K.missing keeper.new)) name.now r) }
     ensures files { K.files keeper.new ≡ K.files keeper.old }
-    ensures faults { K.faults keeper.old ≤ K.faults keeper.new }
     ensures missing { K.missing keeper.old ≤ K.missing keeper.new }
-    ensures device { IsErrOf result Stop.Device → Rose (K.faults keeper.old) (K.faults keeper.new) }
+    ensures cause { HasCause Stop.Device (K.faults keeper.old) (K.faults keeper.new) result }
 {
     match keeper.size(name) {
         Ok(size) if size > most => Ok(FileRead::TooLong),

@@ -1,6 +1,6 @@
 //! The replies of a run, in order of goals. Each is numbered by its place in the run, which names its certificate.
 ghost use Rattle.std.specs.Prelude.{◌≡◌, ◌≤◌, ◌<◌, ◌^◌, ◌+◌, All, map, length, IfOk, IsErrOf};
-ghost use Rattle.bvd_host.specs.Causes.{Rose};
+ghost use Rattle.bvd_host.specs.Causes.{Rose, HasCause};
 ghost use Rattle.bv_lines.specs.Statement.{statement_of};
 ghost use Rattle.bvd_words.specs.Asked.{command_shown, request_shown};
 ghost use Rattle.goal_files.specs.Files.{IsDecidable};
@@ -17,13 +17,10 @@ use crate::finding::{Read, Stated};
 use crate::keeping::keep;
 use crate::stop::Stop;
 use bv_expr::Goal;
-use bvd_host::keeper::Keeper;
-use bvd_report::goal_line::certificate_name;
-use bvd_report::told::{Found, Line, Part, Told, goals_of};
-use bvd_words::request::{Command, Request};
-use goal_replies::checking::told_check;
-use goal_replies::clauses::told_clauses;
-use goal_replies::solving::told_answer;
+use bvd_host::Keeper;
+use bvd_report::{Found, Line, Part, Told, certificate_name, goals_of};
+use bvd_words::{Command, Request};
+use goal_replies::{told_answer, told_check, told_clauses};
 use std::alloc::Global;
 
 /// What `check` tells of the goal of a number, by the certificate that is stored for it.
@@ -36,9 +33,8 @@ fn told_stored<K: Keeper>(
     requires { IsDecidable goal.now }
     ensures told { IfOk result (λ told. IsChecked (K.files keeper.old) (Rose (K.missing keeper.old) (K.missing keeper.new)) (certificate_name number) (statement_of goal.now) (told_shown told)) }
     ensures files { K.files keeper.new ≡ K.files keeper.old }
-    ensures faults { K.faults keeper.old ≤ K.faults keeper.new }
     ensures missing { K.missing keeper.old ≤ K.missing keeper.new }
-    ensures device { IsErrOf result Stop.Device → Rose (K.faults keeper.old) (K.faults keeper.new) }
+    ensures cause { HasCause Stop.Device (K.faults keeper.old) (K.faults keeper.new) result }
 {
     let name = certificate_name(alloc, number)?;
     match told_check(alloc, keeper, name.as_str(), goal) {
@@ -59,9 +55,8 @@ fn told_of<K: Keeper>(
     requires budget { request.now.steps ≤ 1000000000 }
     ensures told { IfOk result (λ told. IsTold (command_shown request.now.command) request.now.steps (K.files keeper.old) (Rose (K.missing keeper.old) (K.missing keeper.new)) number (statement_of goal.now) (told_shown told)) }
     ensures files { K.files keeper.new ≡ K.files keeper.old }
-    ensures faults { K.faults keeper.old ≤ K.faults keeper.new }
     ensures missing { K.missing keeper.old ≤ K.missing keeper.new }
-    ensures device { IsErrOf result Stop.Device → Rose (K.faults keeper.old) (K.faults keeper.new) }
+    ensures cause { HasCause Stop.Device (K.faults keeper.old) (K.faults keeper.new) result }
 {
     match request.command {
         Command::Prove | Command::Alone => Ok(told_answer(alloc, goal, request.steps)),
@@ -83,9 +78,8 @@ fn line_of<K: Keeper>(
     ensures name { IfOk result (λ line. (line_shown line).name ≡ goal.name) }
     ensures told { IfOk result (λ line. IsTold (command_shown request.now.command) request.now.steps (K.files keeper.old) (Rose (K.missing keeper.old) (K.missing keeper.new)) number (statement_of goal) (line_shown line).told) }
     ensures files { K.files keeper.new ≡ K.files keeper.old }
-    ensures faults { K.faults keeper.old ≤ K.faults keeper.new }
     ensures missing { K.missing keeper.old ≤ K.missing keeper.new }
-    ensures device { IsErrOf result Stop.Device → Rose (K.faults keeper.old) (K.faults keeper.new) }
+    ensures cause { HasCause Stop.Device (K.faults keeper.old) (K.faults keeper.new) result }
 {
     let told = told_of(alloc, keeper, request, number, &goal)?;
     Ok(Line {
@@ -107,9 +101,8 @@ fn reply_to_goals<K: Keeper>(
     requires few { first + length goals.items < 2 ^ 64 }
     ensures told { IfOk result (λ lines. AreTold (request_shown request.now) (K.files keeper.old) (Rose (K.missing keeper.old) (K.missing keeper.new)) first (map statement_of goals.items) (lines_shown lines.items)) }
     ensures files { K.files keeper.new ≡ K.files keeper.old }
-    ensures faults { K.faults keeper.old ≤ K.faults keeper.new }
     ensures missing { K.missing keeper.old ≤ K.missing keeper.new }
-    ensures device { IsErrOf result Stop.Device → Rose (K.faults keeper.old) (K.faults keeper.new) }
+    ensures cause { HasCause Stop.Device (K.faults keeper.old) (K.faults keeper.new) result }
 {
     let mut lines = Vec::new(alloc);
     let mut number = first;
@@ -136,9 +129,8 @@ fn reply_to_file<K: Keeper>(
     ensures found { IfOk result (λ found. IsFound (request_shown request.now) (K.files keeper.old) (Rose (K.missing keeper.old) (K.missing keeper.new)) first (stated_shown stated) (found_shown found)) }
     ensures few { IfOk result (λ found. length (goals_of (found_shown found)) ≤ 1024) }
     ensures files { K.files keeper.new ≡ K.files keeper.old }
-    ensures faults { K.faults keeper.old ≤ K.faults keeper.new }
     ensures missing { K.missing keeper.old ≤ K.missing keeper.new }
-    ensures device { IsErrOf result Stop.Device → Rose (K.faults keeper.old) (K.faults keeper.new) }
+    ensures cause { HasCause Stop.Device (K.faults keeper.old) (K.faults keeper.new) result }
 {
     match stated {
         Stated::Absent => Ok(Found::Absent),
@@ -164,9 +156,8 @@ pub fn reply_all<'a, K: Keeper>(
     ensures found { IfOk result (λ parts. AreFound (request_shown request.now) (K.files keeper.old) (Rose (K.missing keeper.old) (K.missing keeper.new)) 1 (reads_shown reads.entry.items) (parts_shown parts.items)) }
     ensures few { IfOk result (λ parts. length (all_goals (parts_shown parts.items)) ≤ 65536) }
     ensures files { K.files keeper.new ≡ K.files keeper.old }
-    ensures faults { K.faults keeper.old ≤ K.faults keeper.new }
     ensures missing { K.missing keeper.old ≤ K.missing keeper.new }
-    ensures device { IsErrOf result Stop.Device → Rose (K.faults keeper.old) (K.faults keeper.new) }
+    ensures cause { HasCause Stop.Device (K.faults keeper.old) (K.faults keeper.new) result }
 {
     let mut parts = Vec::new(alloc);
     let mut number = 1usize;

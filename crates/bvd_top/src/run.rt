@@ -1,7 +1,7 @@
 //! The call that does all that the program does on one thread.
-ghost use Rattle.std.specs.Prelude.{◌≡◌, ◌≤◌, map, string_bytes, length, option_map, IfOk, OnErr, IsErrOf, ◌++◌, take, ℕ, ◌≢◌, ◌⊎◌, List, None};
+ghost use Rattle.std.specs.Prelude.{◌≡◌, ◌≤◌, map, string_bytes, length, option_map, IfOk, OnErr, ◌<◌, ◌++◌, take, ℕ, ◌≢◌, List, None};
 ghost use Rattle.bvd_host.specs.Files.{Files};
-ghost use Rattle.bvd_host.specs.Causes.{Rose};
+ghost use Rattle.bvd_host.specs.Causes.{Rose, HasCause};
 ghost use Rattle.bvd_host.specs.Outside.{outside, CountsStay, IsHonest};
 ghost use Rattle.bvd_words.specs.Asked.{request_shown};
 ghost use Rattle.bvd_report.specs.Report.{all_goals};
@@ -9,19 +9,16 @@ ghost use Rattle.bvd_report.specs.Shown.{parts_shown};
 ghost use Rattle.bvd_top.specs.Parts.{ArePartsOf};
 ghost use Rattle.bvd_words.specs.Requests.{request_of};
 ghost use Rattle.bvd_top.specs.Words.{usage};
-ghost use Rattle.bvd_top.specs.Ending.{Ending, Answered, Does, status_in};
+ghost use Rattle.bvd_top.specs.Ending.{Ending, Answered, Does, IsFaultTold, status_in};
 
 use crate::finding::find_all;
 use crate::replying::reply_all;
 use crate::stop::Stop;
 use crate::storing::store_certificates;
 use crate::telling::tell;
-use bvd_host::keeper::Keeper;
-use bvd_host::sink::Sink;
-use bvd_report::report::report;
-use bvd_report::status::status_of;
-use bvd_report::told::Part;
-use bvd_words::request::{Request, read_words};
+use bvd_host::{Keeper, Sink};
+use bvd_report::{Part, report, status_of};
+use bvd_words::{Request, read_words};
 use std::alloc::{AllocError, Global};
 
 /// What became of each file: all files are read, and then their goals are replied to.
@@ -35,9 +32,8 @@ fn parts_of<'a, K: Keeper>(
     ensures found { IfOk result (λ parts. ArePartsOf (K.files keeper.old) (Rose (K.missing keeper.old) (K.missing keeper.new)) (request_shown request.now) (parts_shown parts.items)) }
     ensures few { IfOk result (λ parts. length (all_goals (parts_shown parts.items)) ≤ 65536) }
     ensures files { K.files keeper.new ≡ K.files keeper.old }
-    ensures faults { K.faults keeper.old ≤ K.faults keeper.new }
     ensures missing { K.missing keeper.old ≤ K.missing keeper.new }
-    ensures device { IsErrOf result Stop.Device → Rose (K.faults keeper.old) (K.faults keeper.new) }
+    ensures cause { HasCause Stop.Device (K.faults keeper.old) (K.faults keeper.new) result }
 {
     let reads = find_all(alloc, keeper, &request.files)?;
     reply_all(alloc, keeper, request, reads)
@@ -77,10 +73,9 @@ fn status_in(end: Result<u8, Stop>) -> u8
 
 /// Refuses the words.
 fn refuse<S: Sink>(out: &mut S) -> Result<u8, Stop>
-    ensures faults { S.faults out.old ≤ S.faults out.new }
     ensures ok { IfOk result (λ status. (status ≡ 2) × (S.written out.new ≡ option_map (λ w. w ++ usage) (S.written out.old))) }
-    ensures err { OnErr result ((n : ℕ) × (S.written out.new ≡ option_map (λ w. w ++ take n usage) (S.written out.old))) }
-    ensures device { IsErrOf result Stop.Device → Rose (S.faults out.old) (S.faults out.new) }
+    ensures err { OnErr result ((n : ℕ) × (n < length usage) × (S.written out.new ≡ option_map (λ w. w ++ take n usage) (S.written out.old))) }
+    ensures cause { HasCause Stop.Device (S.faults out.old) (S.faults out.new) result }
 {
     tell(out, USAGE)?;
     Ok(2)
@@ -104,14 +99,16 @@ fn end<K: Keeper, S: Sink>(alloc: Global, words: &[String], keeper: &mut K, out:
 /// |---|---|
 /// | 0 | where none of the others does |
 /// | 1 | exactly where a goal is false or a certificate is refused |
-/// | 2 | exactly where the words are refused: the usage is told, and nothing is read or written |
+/// | 2 | exactly where the words are refused: the usage is told, and nothing is asked of the keeper |
 /// | 3 | exactly where a goal's steps are spent, or its circuit is too deep or too large |
 /// | 4 | exactly where a file or a certificate is absent, or a file isn't in the form |
-/// | 6 | only where the keeper's or the sink's count of faults rose in this call |
+/// | 6 | exactly where the keeper's or the sink's count of faults rose in this call, or stood at its end |
 /// | 7 | for want of memory, and for no other cause |
 ///
-/// The greatest that applies is answered, but a device that fails ends the run at once with 6. What is told is always a
-/// beginning of the report. Cost: linear in the files, the certificates and the report.
+/// The greatest that applies is answered, but a device that fails ends the run at once with 6, and then nothing more is
+/// asked of either device. What is told is always a beginning of the report, and one that is told whole is answered by
+/// its own status. Cost: the searches or the replays of the goals, and linear in the files, the certificates and the
+/// report.
 pub fn run_single<K: Keeper, S: Sink>(
     alloc: Global,
     words: &[String],
@@ -128,8 +125,8 @@ pub fn run_single<K: Keeper, S: Sink>(
     ensures done { (files : Files) (text : List ℕ) → IsHonest (outside K.files K.faults K.missing S.written S.faults keeper.old out.old) (outside K.files K.faults K.missing S.written S.faults keeper.new out.new) files text
         → result ≢ 7 → Does (request_of (map string_bytes words.now)) files text (outside K.files K.faults K.missing S.written S.faults keeper.new out.new) result }
 
-    // A device failed only where a count rose.
-    ensures device { result ≡ 6 → Rose (K.faults keeper.old) (K.faults keeper.new) ⊎ Rose (S.faults out.old) (S.faults out.new) }
+    // A device's fault ends the run at once, with its own status.
+    ensures device { IsFaultTold (outside K.files K.faults K.missing S.written S.faults keeper.old out.old) (outside K.files K.faults K.missing S.written S.faults keeper.new out.new) result }
 
     // The usage's status comes only for words that are refused.
     ensures words { result ≡ 2 → request_of (map string_bytes words.now) ≡ None }

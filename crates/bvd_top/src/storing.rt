@@ -1,27 +1,24 @@
 //! The certificates of a run are written in order of goals, so that after a failure those of the first goals are whole and the others aren't begun.
-ghost use Rattle.std.specs.Prelude.{◌≡◌, ◌+◌, ◌<◌, ◌≤◌, ◌^◌, option_map, OnOk, OnErr, IfOk, IsErrOf, length, []};
+ghost use Rattle.std.specs.Prelude.{◌≡◌, ◌+◌, ◌<◌, ◌^◌, option_map, OnOk, OnErr, length, []};
 ghost use Rattle.bvd_host.specs.Files.{with_file};
-ghost use Rattle.bvd_host.specs.Causes.{Rose};
+ghost use Rattle.bvd_host.specs.Causes.{HasCause};
 ghost use Rattle.cert_store.specs.CutShort.{IsCutShort};
 ghost use Rattle.bvd_report.specs.Report.{all_goals, certificates, certificates_from, with_certificate};
 ghost use Rattle.bvd_report.specs.Shown.{lines_shown, parts_shown, told_shown};
 ghost use Rattle.bvd_top.specs.Storing.{IsPartlyStored, with_all};
 
 use crate::stop::Stop;
-use bvd_host::keeper::Keeper;
-use bvd_report::goal_line::certificate_name;
-use bvd_report::told::{Line, Part, Told, goals_of};
-use cert_store::putting::put;
-use cert_store::stop::StoreStop;
+use bvd_host::Keeper;
+use bvd_report::{Line, Part, Told, certificate_name, goals_of};
+use cert_store::{StoreStop, put};
 use std::alloc::Global;
 
 /// Writes a file. After an error it holds what it held before, or a beginning of the bytes.
 fn store<K: Keeper>(keeper: &mut K, name: &str, bytes: &[u8]) -> Result<(), Stop>
     ensures ok { OnOk result (K.files keeper.new ≡ option_map (λ f. with_file f name.now bytes.now) (K.files keeper.old)) }
     ensures err { OnErr result (IsCutShort name.now bytes.now (K.files keeper.old) (K.files keeper.new)) }
-    ensures faults { K.faults keeper.old ≤ K.faults keeper.new }
-    ensures missing { K.missing keeper.old ≤ K.missing keeper.new }
-    ensures device { IsErrOf result Stop.Device → Rose (K.faults keeper.old) (K.faults keeper.new) }
+    ensures missing { K.missing keeper.new ≡ K.missing keeper.old }
+    ensures cause { HasCause Stop.Device (K.faults keeper.old) (K.faults keeper.new) result }
 {
     match put(keeper, name, bytes) {
         Ok(()) => Ok(()),
@@ -39,9 +36,8 @@ fn store_goal<K: Keeper>(
 ) -> Result<(), Stop>
     ensures ok { OnOk result (K.files keeper.new ≡ option_map (with_all (with_certificate number (told_shown told.now) [])) (K.files keeper.old)) }
     ensures err { OnErr result (IsPartlyStored (with_certificate number (told_shown told.now) []) (K.files keeper.old) (K.files keeper.new)) }
-    ensures faults { K.faults keeper.old ≤ K.faults keeper.new }
-    ensures missing { K.missing keeper.old ≤ K.missing keeper.new }
-    ensures device { IsErrOf result Stop.Device → Rose (K.faults keeper.old) (K.faults keeper.new) }
+    ensures missing { K.missing keeper.new ≡ K.missing keeper.old }
+    ensures cause { HasCause Stop.Device (K.faults keeper.old) (K.faults keeper.new) result }
 {
     match told {
         Told::Proved(text) => {
@@ -62,9 +58,8 @@ fn store_goals<K: Keeper>(
     requires { first + length goals.now < 2 ^ 64 }
     ensures ok { OnOk result (K.files keeper.new ≡ option_map (with_all (certificates_from first (lines_shown goals.now))) (K.files keeper.old)) }
     ensures err { OnErr result (IsPartlyStored (certificates_from first (lines_shown goals.now)) (K.files keeper.old) (K.files keeper.new)) }
-    ensures faults { K.faults keeper.old ≤ K.faults keeper.new }
-    ensures missing { K.missing keeper.old ≤ K.missing keeper.new }
-    ensures device { IsErrOf result Stop.Device → Rose (K.faults keeper.old) (K.faults keeper.new) }
+    ensures missing { K.missing keeper.new ≡ K.missing keeper.old }
+    ensures cause { HasCause Stop.Device (K.faults keeper.old) (K.faults keeper.new) result }
 {
     let mut number = first;
     'goals: for line in goals {
@@ -85,9 +80,8 @@ pub fn store_certificates<K: Keeper>(
     requires { length (all_goals (parts_shown parts.now)) < 2 ^ 63 }
     ensures ok { OnOk result (K.files keeper.new ≡ option_map (with_all (certificates (parts_shown parts.now))) (K.files keeper.old)) }
     ensures err { OnErr result (IsPartlyStored (certificates (parts_shown parts.now)) (K.files keeper.old) (K.files keeper.new)) }
-    ensures faults { K.faults keeper.old ≤ K.faults keeper.new }
-    ensures missing { K.missing keeper.old ≤ K.missing keeper.new }
-    ensures device { IsErrOf result Stop.Device → Rose (K.faults keeper.old) (K.faults keeper.new) }
+    ensures missing { K.missing keeper.new ≡ K.missing keeper.old }
+    ensures cause { HasCause Stop.Device (K.faults keeper.old) (K.faults keeper.new) result }
 {
     let mut number = 1usize;
     'parts: for part in parts {

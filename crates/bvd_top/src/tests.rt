@@ -1,7 +1,6 @@
 //! Runs over a keeper and a sink in memory: the printed lines, and what a failing device leaves.
-use crate::run::run_single;
-use bvd_host::map_keeper::MapKeeper;
-use bvd_host::vec_sink::VecSink;
+use crate::run_single;
+use bvd_host::{MapKeeper, VecSink};
 use std::alloc::{AllocError, Global};
 use std::collections::BTreeMap;
 

@@ -11,7 +11,7 @@ use crate::certificate::{CheckStop, Checked, check};
 use crate::decided::{truth_goal, truth_meant};
 use bv_expr::Goal;
 use bvd_host::Keeper;
-use bvd_report::told::Told;
+use bvd_report::Told;
 use goal_alone::{FormulaStop, formula_of};
 use std::alloc::Global;
 

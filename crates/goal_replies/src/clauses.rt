@@ -7,7 +7,7 @@ ghost use Rattle.goal_replies.specs.Clauses.{AreClauses, IsClausesTold};
 
 use crate::decided::{truth_goal, truth_meant};
 use bv_expr::Goal;
-use bvd_report::told::Told;
+use bvd_report::Told;
 use goal_alone::{FormulaStop, formula_of};
 use sat_form::dimacs;
 use std::alloc::{AllocError, Global};

@@ -11,7 +11,7 @@ ghost use Rattle.goal_replies.specs.Solved.{IsAnswered, IsSolved};
 use crate::decided::{truth_goal, truth_meant};
 use bv_expr::{Goal, Val};
 use bv_print::print_values;
-use bvd_report::told::Told;
+use bvd_report::Told;
 use goal_alone::{Reply, alone};
 use std::alloc::Global;
 

@@ -26,6 +26,6 @@ names-preserved g c =
       small = subst (All S) (sym c.in_ok-keep.ensures) (All-push S c.names.reads.items read c.names.invariant.small c.in_ok-stated.ensures.small);
       decidable = subst (All P) (sym c.in_ok-keep.ensures) (All-push P c.names.reads.items read c.names.invariant.decidable c.in_ok-stated.ensures.decidable);
       files = c.in_ok-stated.ensures.files ∙ c.names.invariant.files;
-      faults = omega (arith, c.in_ok-stated.ensures.faults, c.names.invariant.faults);
+      faults = c.in_ok-stated.ensures.cause.spared (λ failed. cc) ∙ c.names.invariant.faults;
       missing = omega (arith, c.in_ok-stated.ensures.missing, c.names.invariant.missing);
     }

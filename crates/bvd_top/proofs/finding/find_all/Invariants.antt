@@ -13,6 +13,6 @@ invariant-names g l = record {
   small : All (λ r. IsSmall (stated_shown r.stated)) l.reads.items;
   decidable : All (λ r. AreDecidable r.stated) l.reads.items;
   files : g.K.Keeper.files l.keeper ≡ g.K.Keeper.files l.initial.keeper;
-  faults : g.K.Keeper.faults l.initial.keeper ≤ g.K.Keeper.faults l.keeper;
+  faults : g.K.Keeper.faults l.keeper ≡ g.K.Keeper.faults l.initial.keeper;
   missing : g.K.Keeper.missing l.initial.keeper ≤ g.K.Keeper.missing l.keeper;
 }

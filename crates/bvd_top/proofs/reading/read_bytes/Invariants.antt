@@ -8,7 +8,7 @@ invariant-pieces g l = record {
   front : IfSome (g.K.Keeper.files l.keeper) (λ f. IsFrontOf (file_at f l.name) l.size l.bytes.items);
   most : length l.bytes.items ≤ l.size;
   files : g.K.Keeper.files l.keeper ≡ g.K.Keeper.files l.initial.keeper;
-  faults : g.K.Keeper.faults l.initial.keeper ≤ g.K.Keeper.faults l.keeper;
+  faults : g.K.Keeper.faults l.keeper ≡ g.K.Keeper.faults l.initial.keeper;
   missing : g.K.Keeper.missing l.initial.keeper ≤ g.K.Keeper.missing l.keeper;
 }
 

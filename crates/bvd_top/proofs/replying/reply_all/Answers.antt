@@ -25,6 +25,6 @@ reads-preserved g c =
       number = omega (arith, c.reads.invariant.number, more, count);
       few = omega (arith, c.reads.invariant.few, c.in_ok-found.ensures.few, count, yielded);
       files = c.in_ok-found.ensures.files ∙ c.reads.invariant.files;
-      faults = omega (arith, c.in_ok-found.ensures.faults, c.reads.invariant.faults);
+      faults = c.in_ok-found.ensures.cause.spared (λ failed. cc) ∙ c.reads.invariant.faults;
       missing = omega (arith, c.in_ok-found.ensures.missing, c.reads.invariant.missing);
     }

@@ -13,6 +13,6 @@ invariant-reads g l = record {
   number : l.number ≡ 1 + length (all_goals (parts_shown l.parts.items));
   few : l.number ≤ 1 + 1024 * length l.yielded;
   files : g.K.Keeper.files l.keeper ≡ g.K.Keeper.files l.initial.keeper;
-  faults : g.K.Keeper.faults l.initial.keeper ≤ g.K.Keeper.faults l.keeper;
+  faults : g.K.Keeper.faults l.keeper ≡ g.K.Keeper.faults l.initial.keeper;
   missing : g.K.Keeper.missing l.initial.keeper ≤ g.K.Keeper.missing l.keeper;
 }

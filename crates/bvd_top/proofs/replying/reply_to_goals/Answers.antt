@@ -26,6 +26,6 @@ goals-preserved g c =
           (omega (arith, c.goals.invariant.number, count, yielded)) c.in_ok-line.ensures.name c.in_ok-line.ensures.told goals lines;
       number = omega (arith, c.goals.invariant.number, more);
       files = c.in_ok-line.ensures.files ∙ c.goals.invariant.files;
-      faults = omega (arith, c.in_ok-line.ensures.faults, c.goals.invariant.faults);
+      faults = c.in_ok-line.ensures.cause.spared (λ failed. cc) ∙ c.goals.invariant.faults;
       missing = omega (arith, c.in_ok-line.ensures.missing, c.goals.invariant.missing);
     }

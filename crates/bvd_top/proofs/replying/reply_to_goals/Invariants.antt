@@ -11,6 +11,6 @@ invariant-goals g l = record {
   told : AreTold (request_shown l.request) (g.K.Keeper.files l.initial.keeper) (Rose (g.K.Keeper.missing l.initial.keeper) (g.K.Keeper.missing l.keeper)) l.first (map statement_of l.yielded) (lines_shown l.lines.items);
   number : l.number ≡ l.first + length l.yielded;
   files : g.K.Keeper.files l.keeper ≡ g.K.Keeper.files l.initial.keeper;
-  faults : g.K.Keeper.faults l.initial.keeper ≤ g.K.Keeper.faults l.keeper;
+  faults : g.K.Keeper.faults l.keeper ≡ g.K.Keeper.faults l.initial.keeper;
   missing : g.K.Keeper.missing l.initial.keeper ≤ g.K.Keeper.missing l.keeper;
 }

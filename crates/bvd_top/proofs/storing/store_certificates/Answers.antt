@@ -1,4 +1,4 @@
-use Rattle.std.proofs.Common.{◌≡◌, ◌+◌, ◌∷◌, drop, ap, arith, length}
+use Rattle.std.proofs.Common.{◌≡◌, ◌+◌, ◌∷◌, ◌∙◌, drop, ap, arith, length}
 use Rattle.std.proofs.lemmas.Grind.{common_steps}
 use Rattle.std.proofs.lemmas.List.{length-map}
 use Rattle.bvd_report.specs.Report.{all_goals, certificates}
@@ -28,6 +28,6 @@ parts-preserved g c =
     record {
       number = omega (arith, left, many);
       files = rw (← many) stored;
-      faults = omega arith;
-      missing = omega arith;
+      faults = c.in_ok-store_goals.ensures.cause.spared (λ failed. cc) ∙ c.parts.invariant.faults;
+      missing = c.store_goals.ensures.missing ∙ c.parts.invariant.missing;
     }

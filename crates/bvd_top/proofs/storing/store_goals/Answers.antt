@@ -1,4 +1,4 @@
-use Rattle.std.proofs.Common.{◌≡◌, ◌+◌, ◌∷◌, drop, ap, arith}
+use Rattle.std.proofs.Common.{◌≡◌, ◌+◌, ◌∷◌, ◌∙◌, drop, ap, arith}
 use Rattle.std.proofs.lemmas.Grind.{common_steps}
 use Rattle.bvd_report.specs.Report.{certificates_from}
 use Rattle.bvd_report.specs.Shown.{line_shown, lines_shown}
@@ -21,6 +21,6 @@ goals-preserved g c =
       number = omega arith;
       files = stored-goal_at (line_shown c.line-item.result) (lines_shown (drop (c.goals.line-index + 1) c.args.goals.now)) (lines_shown (drop c.goals.line-index c.args.goals.now))
           c.goals.number (certificates_from c.args.first (lines_shown c.args.goals.now)) _ _ _ c.goals.invariant.files c.in_ok-store_goal.ensures.ok (ap lines_shown here);
-      faults = omega arith;
-      missing = omega arith;
+      faults = c.in_ok-store_goal.ensures.cause.spared (λ failed. cc) ∙ c.goals.invariant.faults;
+      missing = c.store_goal.ensures.missing ∙ c.goals.invariant.missing;
     }

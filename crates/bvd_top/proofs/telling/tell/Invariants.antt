@@ -6,7 +6,7 @@ abbrev pub invariant-pieces : goal.invariant-pieces
 invariant-pieces g l = record {
   written : g.S.Sink.written l.out ≡ option_map (λ w. w ++ take l.at l.text) (g.S.Sink.written l.initial.out);
   most : l.at ≤ length l.text;
-  faults : g.S.Sink.faults l.initial.out ≤ g.S.Sink.faults l.out;
+  faults : g.S.Sink.faults l.out ≡ g.S.Sink.faults l.initial.out;
 }
 
 abbrev pub decreases-pieces : goal.decreases-pieces

@@ -7,7 +7,7 @@ ghost use Rattle.bvd_report.specs.Shown.{parts_shown};
 use crate::file_lines::push_files;
 use crate::summary::push_summary;
 use crate::told::Part;
-use bvd_words::request::Request;
+use bvd_words::Request;
 use std::alloc::{AllocError, Global};
 use std::io;
 
