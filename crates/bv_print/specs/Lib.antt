@@ -1,1 +1,4 @@
 pub mod Values
+pub mod Spelling
+pub mod Canonical
+pub mod Pieces

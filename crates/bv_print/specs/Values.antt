@@ -1,5 +1,5 @@
 -- Values of variables, as reports write them.
-use Rattle.std.specs.Prelude.{ℕ, ◌≡◌, ◌+◌, ◌/◌, true, false, List, ◌++◌, codes, decimal, flat_map}
+use Rattle.std.specs.Prelude.{ℕ, ◌≡◌, ◌+◌, ◌/◌, Bool, true, false, List, ◌++◌, codes, decimal, flat_map}
 use Rattle.std.specs.List.{zip, join_by}
 use Rattle.bv_value.specs.BitVector.{BitVector}
 use Rattle.bv_expr.specs.declared.ops.Val.{Val}
@@ -15,10 +15,14 @@ hex_width w = (w + 3) / 4
 abbrev pub vector_text : BitVector → List ℕ
 vector_text x = hex_text (hex_width x.width) x.number ++ codes "#" ++ decimal x.width
 
+-- The word of a truth.
+abbrev pub truth_text : Bool → List ℕ
+truth_text true = codes "true"
+truth_text false = codes "false"
+
 -- A value: a truth's word, or a vector.
 abbrev pub value_text : Val → List ℕ
-value_text (Truth true) = codes "true"
-value_text (Truth false) = codes "false"
+value_text (Truth b) = truth_text b
 value_text (Vector x) = vector_text x
 
 -- A variable's name and its value.

@@ -3,7 +3,7 @@
 
 ghost use Rattle.std.specs.Prelude.{◌≡◌, ◌++◌, ◌<◌, ◌≤◌, ◌+◌, ◌^◌, codes, length, OnOk, OnErr};
 ghost use Rattle.bv_expr.specs.Goal.{AreValues};
-ghost use Rattle.bv_print.specs.Values.{Begins, vector_text, value_text, assignment_text, further_text, values_text};
+ghost use Rattle.bv_print.specs.Values.{Begins, vector_text, truth_text, value_text, assignment_text, further_text, values_text};
 
 use bv_expr::{Goal, Name, Sort, Val};
 use bv_value::Bv;
@@ -12,7 +12,7 @@ use std::alloc::AllocError;
 
 // Appends a vector's digits and its width.
 #[tactic(auto, using(crate::proofs::Fronts::appended, crate::proofs::Fronts::through, crate::proofs::Fronts::unchanged))]
-fn push_vector(out: &mut Vec<u8>, vector: &Bv) -> Result<(), AllocError>
+pub(crate) fn push_vector(out: &mut Vec<u8>, vector: &Bv) -> Result<(), AllocError>
     ensures ok { OnOk result (out.new.items ≡ out.old.items ++ vector_text vector.now) }
     ensures err { OnErr result (Begins out.old.items out.new.items) }
 {
@@ -22,6 +22,18 @@ fn push_vector(out: &mut Vec<u8>, vector: &Bv) -> Result<(), AllocError>
     push_number(out, u128::from(width))
 }
 
+// Appends the word of a truth.
+pub(crate) fn push_truth(out: &mut Vec<u8>, truth: bool) -> Result<(), AllocError>
+    ensures ok { OnOk result (out.new.items ≡ out.old.items ++ truth_text truth) }
+    ensures err { OnErr result (out.new.items ≡ out.old.items) }
+{
+    if truth {
+        out.extend_from_slice(b"true")
+    } else {
+        out.extend_from_slice(b"false")
+    }
+}
+
 // Appends a value.
 #[tactic(auto, using(crate::proofs::Fronts::appended, crate::proofs::Fronts::through, crate::proofs::Fronts::unchanged))]
 fn push_value(out: &mut Vec<u8>, value: &Val) -> Result<(), AllocError>
@@ -29,8 +41,7 @@ fn push_value(out: &mut Vec<u8>, value: &Val) -> Result<(), AllocError>
     ensures err { OnErr result (Begins out.old.items out.new.items) }
 {
     match value {
-        Val::Truth(true) => out.extend_from_slice(b"true"),
-        Val::Truth(false) => out.extend_from_slice(b"false"),
+        Val::Truth(truth) => push_truth(out, *truth),
         Val::Vector(vector) => push_vector(out, vector),
     }
 }
