@@ -5,8 +5,10 @@ use Rattle.bv_grammar.specs.declared.words.Terminal.{Terminal}
 use Rattle.bv_grammar.specs.Grammar.{terminal_of, Symbol, terminal, finish, unless, items, path, dotted, paths, part, binders, names, bound, sort, proof, intro, separator, tactic, term, tail, call, methods, more_methods, arguments, dots, atom, literal, closing}
 use Rattle.bv_grammar.specs.Grammar as g
 use Rattle.bv_grammar.specs.Derivation.{Derives, here, taken, at_end, not_next, by_rule}
+use Rattle.bv_trees.specs.declared.pieces.Sort.{Sort}
+use Rattle.bv_trees.specs.declared.pieces.Sort.TheVariants as sorts
 use Rattle.bv_trees.specs.Trees as x
-use Rattle.bv_trees.specs.Trees.{Sort, Tree, Trees, Binder, Goal}
+use Rattle.bv_trees.specs.Trees.{Tree, Trees, Binder, Goal}
 use Rattle.bv_trees.specs.Terms as t
 use Rattle.bv_trees.specs.Terms.{IsNot, SortAt, Term, Operand, Tail, Methods, Arguments, Atoms, Dots, Atom, Literal, Closing}
 use Rattle.bv_trees.specs.Files as f
@@ -19,13 +21,13 @@ Means ts (terminal r ∷ a) i n = (slice_get ts i ≡ Some (terminal_of r)) × M
 Means ts (finish ∷ a) i n = (slice_get ts i ≡ None) × Means ts a (i + 1) n
 Means ts (unless b ∷ a) i n = IsNot ts b i × Means ts a i n
 Means ts (items ∷ a) i n = (k : ℕ) × ((gs : List Goal) × Items ts i gs k) × Means ts a k n
-Means ts (path ∷ a) i n = (k : ℕ) × ((ns : List ℕ) × Path ts i ns k) × Means ts a k n
-Means ts (dotted ∷ a) i n = (k : ℕ) × ((ns : List ℕ) × Dotted ts i ns k) × Means ts a k n
+Means ts (path ∷ a) i n = (k : ℕ) × Path ts i k × Means ts a k n
+Means ts (dotted ∷ a) i n = (k : ℕ) × Dotted ts i k × Means ts a k n
 Means ts (paths ∷ a) i n = (k : ℕ) × Paths ts i k × Means ts a k n
 Means ts (part ∷ a) i n = PartAt ts i × Means ts a (i + 1) n
 Means ts (binders ∷ a) i n = (k : ℕ) × ((bs : List Binder) × Binders ts i bs k) × Means ts a k n
-Means ts (names ∷ a) i n = (k : ℕ) × ((ns : List ℕ) × Names ts i ns k) × Means ts a k n
-Means ts (bound ∷ a) i n = (k : ℕ) × ((ns : List ℕ) → (b : Binder) × Bound ts ns i b k) × Means ts a k n
+Means ts (names ∷ a) i n = (k : ℕ) × Names ts i k × Means ts a k n
+Means ts (bound ∷ a) i n = (k : ℕ) × ((a b : ℕ) → (c : Binder) × Bound ts a b i c k) × Means ts a k n
 Means ts (sort ∷ a) i n = (k : ℕ) × ((s : Sort) × SortAt ts i s k) × Means ts a k n
 Means ts (proof ∷ a) i n = (k : ℕ) × ((s : Option ℕ) × Proof ts i s k) × Means ts a k n
 Means ts (intro ∷ a) i n = (k : ℕ) × Intros ts i k × Means ts a k n
@@ -44,28 +46,28 @@ Means ts (closing ∷ a) i n = (k : ℕ) × ((y : Tree) → (z : Tree) × Closin
 
 -- what a rule makes of what its symbols are
 by : (ts : List Terminal) (i n : ℕ) {s : Symbol} {r : List Symbol} (a : List Symbol) → g.Rule s r → Means ts (r ++ a) i n → Means ts (s ∷ a) i n
-by ts i n a g.import_item h = (h.1.2.0, (h.1.2.1.0, f.import_ h.0 h.1.1.1 h.1.2.1.1), h.1.2.2)
-by ts i n a g.open_item h = (h.1.2.2.0, (h.1.2.2.1.0, f.open_ h.0 h.1.1.1 h.1.2.1 h.1.2.2.1.1), h.1.2.2.2)
-by ts i n a g.theorem_item h = (h.1.2.2.1.2.1.2.0, (_ ∷ h.1.2.2.1.2.1.2.1.0, f.theorem_ h.0 h.1.1.1 (f.statement h.1.2.1.1 h.1.2.2.0 h.1.2.2.1.1.1 h.1.2.2.1.2.0 h.1.2.2.1.2.1.1.1) h.1.2.2.1.2.1.2.1.1), h.1.2.2.1.2.1.2.2)
+by ts i n a g.import_item h = (h.1.2.0, (h.1.2.1.0, f.import_ h.0 h.1.1 h.1.2.1.1), h.1.2.2)
+by ts i n a g.open_item h = (h.1.2.2.0, (h.1.2.2.1.0, f.open_ h.0 h.1.1 h.1.2.1 h.1.2.2.1.1), h.1.2.2.2)
+by ts i n a g.theorem_item h = (h.1.2.2.1.2.1.2.0, (_ ∷ h.1.2.2.1.2.1.2.1.0, f.theorem_ h.0 h.1.1 (f.statement h.1.2.1.1 h.1.2.2.0 h.1.2.2.1.1.1 h.1.2.2.1.2.0 h.1.2.2.1.2.1.1.1) h.1.2.2.1.2.1.2.1.1), h.1.2.2.1.2.1.2.2)
 by ts i n a g.example_item h = (h.1.2.1.2.1.2.0, (_ ∷ h.1.2.1.2.1.2.1.0, f.example_ h.0 (f.statement h.1.1.1 h.1.2.0 h.1.2.1.1.1 h.1.2.1.2.0 h.1.2.1.2.1.1.1) h.1.2.1.2.1.2.1.1), h.1.2.1.2.1.2.2)
 by ts i n a g.no_item h = (i, ([], f.no_item h.0), h.1)
-by ts i n a g.a_path h = (h.1.0, (i ∷ h.1.1.0, f.path h.0 h.1.1.1), h.1.2)
+by ts i n a g.a_path h = (h.1.0, f.path h.0 h.1.1, h.1.2)
 by ts i n a g.part_name h = (f.a_name h.0, h.1)
 by ts i n a g.part_bool h = (f.a_bool h.0, h.1)
 by ts i n a g.part_bitvec h = (f.a_bitvec h.0, h.1)
-by ts i n a g.further_part h = (h.1.1.0, ((i + 1) ∷ h.1.1.1.0, f.a_part h.0 h.1.0 h.1.1.1.1), h.1.1.2)
-by ts i n a g.no_part h = (i, ([], f.no_part h.0), h.1)
-by ts i n a g.further_path h = (h.2.0, f.a_path h.1.1 h.2.1, h.2.2)
+by ts i n a g.further_part h = (h.1.1.0, f.a_part h.0 h.1.0 h.1.1.1, h.1.1.2)
+by ts i n a g.no_part h = (i, f.no_part h.0, h.1)
+by ts i n a g.further_path h = (h.2.0, f.a_path h.1 h.2.1, h.2.2)
 by ts i n a g.no_path h = (i, f.no_path h.0, h.1)
-by ts i n a g.round h = (h.1.1.2.1.2.1.0, ((h.1.1.2.1.1 ((i + 1) ∷ h.1.1.1.0)).0 ∷ h.1.1.2.1.2.1.1.0, f.round h.0 h.1.0 h.1.1.1.1 h.1.1.2.0 (h.1.1.2.1.1 ((i + 1) ∷ h.1.1.1.0)).1 h.1.1.2.1.2.0 h.1.1.2.1.2.1.1.1), h.1.1.2.1.2.1.2)
-by ts i n a g.brace h = (h.1.1.2.1.2.1.0, (x.variables ((i + 1) ∷ h.1.1.1.0) h.1.1.2.1.1.0 ∷ h.1.1.2.1.2.1.1.0, f.brace h.0 h.1.0 h.1.1.1.1 h.1.1.2.0 h.1.1.2.1.1.1 h.1.1.2.1.2.0 h.1.1.2.1.2.1.1.1), h.1.1.2.1.2.1.2)
+by ts i n a g.round h = (h.1.1.2.1.2.1.0, ((h.1.1.2.1.1 (i + 1) h.1.1.0).0 ∷ h.1.1.2.1.2.1.1.0, f.round h.0 h.1.0 h.1.1.1 h.1.1.2.0 (h.1.1.2.1.1 (i + 1) h.1.1.0).1 h.1.1.2.1.2.0 h.1.1.2.1.2.1.1.1), h.1.1.2.1.2.1.2)
+by ts i n a g.brace h = (h.1.1.2.1.2.1.0, (x.variables (i + 1) h.1.1.0 h.1.1.2.1.1.0 ∷ h.1.1.2.1.2.1.1.0, f.brace h.0 h.1.0 h.1.1.1 h.1.1.2.0 h.1.1.2.1.1.1 h.1.1.2.1.2.0 h.1.1.2.1.2.1.1.1), h.1.1.2.1.2.1.2)
 by ts i n a g.no_binder h = (i, ([], f.no_binder h.0), h.1)
-by ts i n a g.further_name h = (h.1.0, (i ∷ h.1.1.0, f.further_name h.0 h.1.1.1), h.1.2)
-by ts i n a g.no_name h = (i, ([], f.no_name h.0), h.1)
-by ts i n a g.variables h = (h.0, λ ns. (x.variables ns h.1.0, f.to_sort h.1.1), h.2)
-by ts i n a g.hypothesis h = (h.0, λ ns. (x.hypothesis h.1.0, f.to_term h.1.1), h.2)
-by ts i n a g.truth h = (i + 1, (x.truth, t.truths h.0), h.1)
-by ts i n a g.vector h = (i + 1 + 1, (x.vector (i + 1), t.vectors h.0 h.1.0), h.1.1)
+by ts i n a g.further_name h = (h.1.0, f.further_name h.0 h.1.1, h.1.2)
+by ts i n a g.no_name h = (i, f.no_name h.0, h.1)
+by ts i n a g.variables h = (h.0, λ b c. (x.variables b c h.1.0, f.to_sort h.1.1), h.2)
+by ts i n a g.hypothesis h = (h.0, λ b c. (x.hypothesis h.1.0, f.to_term h.1.1), h.2)
+by ts i n a g.truth h = (i + 1, (sorts.Truth, t.truths h.0), h.1)
+by ts i n a g.vector h = (i + 1 + 1, (sorts.Vector (i + 1), t.vectors h.0 h.1.0), h.1.1)
 by ts i n a g.a_proof h = (h.1.2.0, (h.1.2.1.0, f.by_tactic h.0 h.1.1 h.1.2.1.1), h.1.2.2)
 by ts i n a g.intros h = (h.1.0, f.intros h.0 h.1.1, h.1.2)
 by ts i n a g.no_intros h = (i, f.no_intros h.0, h.1)

@@ -7,8 +7,10 @@ use Rattle.bv_grammar.specs.declared.words.Terminal.TheVariants as terminals
 use Rattle.bv_grammar.specs.declared.words.Fixity.{Fixity}
 use Rattle.bv_grammar.specs.Operators.{prefix_level, fixity_of, when_fits}
 use Rattle.bv_grammar.specs.Grammar.{Next, begins_atom, operator_on, Begins, atom_name, atom_numeral, atom_constant, atom_round, this_word, fitting, IsConstant, is_true, is_false, is_true_proposition, is_false_proposition}
+use Rattle.bv_trees.specs.declared.pieces.Sort.{Sort}
+use Rattle.bv_trees.specs.declared.pieces.Sort.TheVariants as sorts
 use Rattle.bv_trees.specs.Trees as v
-use Rattle.bv_trees.specs.Trees.{Sort, Tree, Trees, Binder, Goal}
+use Rattle.bv_trees.specs.Trees.{Tree, Trees, Binder, Goal}
 use Rattle.bv_trees.specs.Terms as t
 use Rattle.bv_trees.specs.Terms.{IsAt, IsWord, IsNot, SortAt, Term, Operand, Tail, Methods, Arguments, Atoms, Dots, Atom, Literal, Closing}
 
@@ -31,7 +33,7 @@ goes_on ts {x} {i} {i'} {a} n e b h = n a (subst (λ k. IsAt ts a k) (sym h) e) 
 
 pub one_sort : {ts : List Terminal} {i i' j k : ℕ} {s u : Sort} → SortAt ts i s j → SortAt ts i' u k → i ≡ i' → (s ≡ u) × (j ≡ k)
 one_sort (t.truths e) (t.truths f) h = (refl, up h)
-one_sort (t.vectors e n) (t.vectors f m) h = (ap v.vector (up h), up2 h)
+one_sort (t.vectors e n) (t.vectors f m) h = (ap sorts.Vector (up h), up2 h)
 one_sort (t.truths e) (t.vectors f m) h = let same = one_word _ e f h in cc
 one_sort (t.vectors e n) (t.truths f) h = let same = one_word _ e f h in cc
 
@@ -128,6 +130,11 @@ prefix_is_no_sort {l = l} e q s h = let b = sort_first s in sort_word {l = l} (a
 
 pub if_is_no_sort : {ts : List Terminal} {i i' k : ℕ} {s : Sort} → IsWord ts words.If i → SortAt ts i' s k → i ≡ i' → ⊥
 if_is_no_sort e s h = let b = sort_first s in if_word (subst (λ w. (w ≡ words.Bool) ⊎ (w ≡ words.BitVec)) (sym (one_word _ e b.1 h)) b.2)
+
+pub term_is_no_sort : {ts : List Terminal} {p i j : ℕ} {w : Word} {x : Tree} → Term ts p i x j → IsWord ts w i → (w ≡ words.Bool) ⊎ (w ≡ words.BitVec) → ⊥
+term_is_no_sort {ts} {i = i} (t.term (t.prefixed {l} e q d) u) f c = sort_word {l = l} (ap prefix_level (sym (one_word ts {i = i} e f refl)) ∙ q) c
+term_is_no_sort {ts} {i = i} (t.term (t.chosen e x th y el z) u) f c = if_word (subst (λ v. (v ≡ words.Bool) ⊎ (v ≡ words.BitVec)) (sym (one_word ts {i = i} e f refl)) c)
+term_is_no_sort {ts} {i = i} {w = w} (t.term (t.called x m) u) f c = let a = atom_first x in no_sort a.0 w a.2 (one_at ts {i = i} a.1 f refl) c
 
 same_level : {a b : Word} {l m : ℕ} → prefix_level a ≡ Some l → prefix_level b ≡ Some m → a ≡ b → l ≡ m
 same_level e f h = cc

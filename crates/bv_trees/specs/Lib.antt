@@ -2,3 +2,5 @@ pub mod Trees
 pub mod Terms
 pub mod Files
 pub mod Laws
+pub mod Codes
+pub mod Building

@@ -7,7 +7,9 @@ use Rattle.bv_grammar.specs.declared.words.Terminal.TheVariants as terminals
 use Rattle.bv_grammar.specs.declared.words.Fixity.{Fixity}
 use Rattle.bv_grammar.specs.Operators.{prefix_level, fixity_of, when_fits}
 use Rattle.bv_grammar.specs.Grammar.{Next, is_word, operator_on, begins_atom, Begins, IsConstant}
-use Rattle.bv_trees.specs.Trees.{Sort, truth, vector, Tree, name, numeral, literal, constant, prefix, infix_, choice, method, ascribed, Trees, no_more, and}
+use Rattle.bv_trees.specs.declared.pieces.Sort.{Sort}
+use Rattle.bv_trees.specs.declared.pieces.Sort.TheVariants as sorts
+use Rattle.bv_trees.specs.Trees.{Tree, name, numeral, literal, constant, prefix, infix_, choice, method, ascribed, Trees, no_more, and}
 
 -- this terminal stands at i
 abbrev pub IsAt : List Terminal → Terminal → ℕ → Type 0
@@ -23,8 +25,8 @@ IsNot ts x i = (t : Terminal) → IsAt ts t i → Begins x t → ⊥
 
 -- SortAt ts i s j: the terminals from i up to j are the sort s
 pub data SortAt (ts : List Terminal) : ℕ → Sort → ℕ → Type 0 where
-  truths : {i : ℕ} → IsWord ts words.Bool i → SortAt ts i truth (i + 1)
-  vectors : {i : ℕ} → IsWord ts words.BitVec i → IsAt ts terminals.Numeral (i + 1) → SortAt ts i (vector (i + 1)) (i + 1 + 1)
+  truths : {i : ℕ} → IsWord ts words.Bool i → SortAt ts i sorts.Truth (i + 1)
+  vectors : {i : ℕ} → IsWord ts words.BitVec i → IsAt ts terminals.Numeral (i + 1) → SortAt ts i (sorts.Vector (i + 1)) (i + 1 + 1)
 
 mutual
   -- Term ts p i x j: the terminals from i up to j are a term of level p, which is x: an operand, and then, as long as the

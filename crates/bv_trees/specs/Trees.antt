@@ -1,11 +1,7 @@
 -- Theorem files as they are written, as trees. A place is a number of terminals before it in the file.
 use Rattle.std.specs.Prelude.{ℕ, List, Option}
 use Rattle.bv_grammar.specs.declared.words.Word.{Word}
-
--- the sort of truths, or that of bit vectors, with the place of the width's numeral
-pub data Sort : Type 0 where
-  truth : Sort
-  vector : ℕ → Sort
+use Rattle.bv_trees.specs.declared.pieces.Sort.{Sort}
 
 -- A term, with the places of its names, numerals, words and methods. Brackets only group.
 mutual
@@ -29,16 +25,16 @@ mutual
     no_more : Trees
     and : Tree → Trees → Trees
 
--- what a binder binds: variables, by the places of their names, or a hypothesis
+-- what a binder binds: variables of a sort, whose names stand from the first place up to the second, or a hypothesis
 pub data Binder : Type 0 where
-  variables : List ℕ → Sort → Binder
+  variables : ℕ → ℕ → Sort → Binder
   hypothesis : Tree → Binder
 
--- A goal: the place of its head word, the parts of its name (none of an example), its binders, its conclusion, and the
--- string behind `bv_check`.
+-- A goal: the place of its head word, behind which its name stands up to `path` (an example has none); its binders, its
+-- conclusion, and the string behind `bv_check`.
 pub record Goal : Type 0 where
   pub head : ℕ
-  pub path : List ℕ
+  pub path : ℕ
   pub binders : List Binder
   pub conclusion : Tree
   pub stored : Option ℕ
