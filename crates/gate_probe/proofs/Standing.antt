@@ -1,8 +1,8 @@
 -- Which literal stands for which tree, by recursion on the tree, and that this is what the words mean.
-use Rattle.std.proofs.Common.{◌≡◌, ◌≢◌, ℕ, zero, suc, ◌+◌, ◌-◌, ◌*◌, ◌/◌, ◌%◌, ◌<◌, ◌≤◌, max, List, Bool, true, false, not, ◌&&◌, IsTrue, sym, refl, ap, ap₂, ◌∙◌, subst, arith, nat_eq, nat_lt, if◌then◌else◌, true≢false}
+use Rattle.std.proofs.Common.{◌≡◌, ◌≢◌, ℕ, zero, suc, ◌+◌, ◌-◌, ◌*◌, ◌/◌, ◌%◌, ◌<◌, ◌≤◌, max, List, Bool, true, false, not, ◌&&◌, sym, refl, ap, ap₂, ◌∙◌, subst, arith, nat_eq, nat_lt, true≢false}
 use Rattle.std.proofs.lemmas.Grind.{common_steps}
 use Rattle.gate_shape.specs.Literal.{Literal}
-use Rattle.gate_shape.specs.Edge.{Edge, Gate, constant, input, gate, invert, level, gate_edge}
+use Rattle.gate_shape.specs.Edge.{Edge, constant, input, gate, level, gate_edge}
 use Rattle.gate_shape.specs.Builds.{Meaning, node_edge, with_sign, edge, Known, Stands}
 use Rattle.gate_probe.specs.Words.{level_of, left_of, right_of, word_at, level_at}
 use Rattle.gate_probe.specs.Known.{fanin_known, known_within, placed, gate_within, meant}

@@ -1,5 +1,3 @@
-use Rattle.std.proofs.Common.{◌≡◌}
-use Rattle.gate_shape.specs.Builds.{Known}
 use Rattle.gate_shape.proofs.Building.{known_kept, known_answer}
 use Rattle.gate_table.specs.Sitting.{known_by}
 use Rattle.gate_table.proofs.tests.build_three.Goals as goal
