@@ -11,7 +11,8 @@ use Rattle.gate_probe.specs.Known.{meant}
 use Rattle.gate_probe.specs.Sound.{IsFanin, IsGate, IsWithin, IsPart}
 use Rattle.gate_probe.proofs.Parts.{word_parts, level_packed, left_packed, right_packed, packed_some}
 use Rattle.gate_probe.proofs.Keeping.{level_here}
-use Rattle.gate_probe.proofs.Standing.{word_of, StandsIn, stands_more, one_literal, level_in, edge_gate, meant_stands, stands_meant}
+use Rattle.gate_probe.specs.Standing.{word_of, StandsIn}
+use Rattle.gate_probe.proofs.Standing.{stands_more, one_literal, level_in, edge_gate, meant_stands, stands_meant}
 
 pub known_inside : (m : Meaning) (l : Literal) → Known m l → 8193 ≤ l.node → IsTrue (m.known (l.node - 8193))
 known_inside m l k h =

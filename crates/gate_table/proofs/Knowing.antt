@@ -15,7 +15,8 @@ use Rattle.gate_probe.specs.Known.{meant}
 use Rattle.gate_probe.specs.Sound.{IsWithin, IsPart}
 use Rattle.gate_probe.specs.Views.{view, put, learnt}
 use Rattle.gate_probe.specs.declared.view.View.{View}
-use Rattle.gate_probe.proofs.Standing.{word_of, edge_gate}
+use Rattle.gate_probe.specs.Standing.{word_of}
+use Rattle.gate_probe.proofs.Standing.{edge_gate}
 use Rattle.gate_probe.proofs.Meaning.{meant_more, meant_once, meant_fanins, meant_found, meant_none, gate_literal, gate_parts, known_inside}
 use Rattle.gate_table.specs.Plays.{Learns}
 use Rattle.gate_table.specs.Sitting.{Sitting, IsBelow, sees_first, table_numbers, known_by}
