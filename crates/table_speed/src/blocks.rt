@@ -24,13 +24,13 @@ fn build_block<B: Builder>(b: &mut B, number: u32) -> Result<(), GateStop> {
 pub(crate) fn build_blocks<B: Builder>(b: &mut B, from: u32, step: u32, count: u32) -> u32
     requires { 1 ≤ step }
 {
-    let mut built = 0;
+    let mut built = 0u32;
     for number in from..count {
         if (number - from) % step == 0 {
             if build_block(b, number).is_err() {
                 return built;
             }
-            built += 1;
+            built = built.saturating_add(1);
         }
     }
     built

@@ -8,21 +8,24 @@ use std::alloc::{AllocError, Global};
 use std::thread;
 use std::thread::Threads;
 
-/// What one thread works with, and how many blocks it built.
+/// What one thread works with, which blocks it builds, and how many it has built.
 #[derive(Drop)]
 struct Worker<'a> {
     table: &'a GateTable,
     seat: GateSeat,
+    from: u32,
+    step: u32,
+    count: u32,
     built: u32,
     ghost of: { seat.table ≡ table.now },
+    ghost forward: { 1 ≤ step },
 }
 
 impl<'a> Worker<'a> {
-    fn work(&mut self, from: u32, step: u32, count: u32)
-        requires { 1 ≤ step }
-    {
-        let mut builder = SeatBuilder::new(self.table, &mut self.seat);
-        self.built = build_blocks(&mut builder, from, step, count);
+    fn work(&mut self) {
+        let mut seat = self.table.split(&mut self.seat);
+        let mut builder = SeatBuilder::new(self.table, &mut seat);
+        self.built = build_blocks(&mut builder, self.from, self.step, self.count);
     }
 }
 
@@ -32,14 +35,18 @@ fn workers<'a>(
     table: &'a GateTable,
     seat: &mut GateSeat,
     threads: u32,
+    count: u32,
 ) -> Result<Vec<Worker<'a>>, AllocError>
     requires { seat.old.table ≡ table.now }
 {
     let mut crew = Vec::new(alloc);
-    for _ in 0..threads {
+    for from in 0..threads {
         crew.push(Worker {
             table,
             seat: table.split(seat),
+            from,
+            step: threads,
+            count,
             built: 0,
         })?;
     }
@@ -59,10 +66,13 @@ pub(crate) fn build_shared<R: Threads + Sync>(
     requires size { (1 ≤ size) × (size ≤ 4000000) }
 {
     let (table, mut seat) = GateTable::new(alloc, size)?;
-    let mut crew = workers(alloc, &table, &mut seat, threads)?;
-    thread::for_each_mut(rt, crew.as_mut_slice(), threads as usize, &|i, worker| {
-        worker.work(i as u32, threads, count)
-    });
+    let mut crew = workers(alloc, &table, &mut seat, threads, count)?;
+    thread::for_each_mut(
+        rt,
+        crew.as_mut_slice(),
+        threads as usize,
+        &|_, worker| worker.work(),
+    );
     let mut built = 0u32;
     for worker in &crew {
         built = built.saturating_add(worker.built);

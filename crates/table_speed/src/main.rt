@@ -8,8 +8,7 @@ mod crew;
 use blocks::build_blocks;
 use crew::build_shared;
 use gate_shape::ListBuilder;
-use std::env;
-use std::io;
+use std::{env, io};
 
 /// The number that is the next word, or 0.
 fn number(words: &mut env::Args) -> u32 {
