@@ -1,13 +1,13 @@
 -- A claim that is allowed keeps the words sound.
-use Rattle.std.proofs.Common.{◌≡◌, ◌≢◌, ◌⊎◌, ℕ, zero, suc, ◌+◌, ◌-◌, ◌*◌, ◌%◌, ◌<◌, ◌≤◌, max, List, [], ◌∷◌, Bool, if◌then◌else◌, length, get_or, set, inl, inr, ⊎_elim, sym, refl, ap, ap₂, ◌∙◌, subst, arith, length-set, lt_of_not-le, mod-lt, nat_lt, true, false}
+use Rattle.std.proofs.Common.{◌≡◌, ◌≢◌, ◌⊎◌, ℕ, zero, suc, ◌+◌, ◌-◌, ◌<◌, ◌≤◌, max, List, [], ◌∷◌, length, set, inl, inr, ⊎_elim, sym, refl, ap, ap₂, ◌∙◌, subst, arith, length-set, lt_of_not-le, mod-lt, nat_lt, true, false}
 use Rattle.std.proofs.lemmas.List.{get_or-set_same, get_or-set_other}
 use Rattle.std.proofs.lemmas.Grind.{common_steps}
 use mathlib.Core.Logic.{dite}
 use native.Mathlib.Decide.{dec_le, ℕ_discrete}
 use Rattle.gate_shape.specs.Literal.{Literal}
 use Rattle.gate_shape.specs.Word.{key_of, key_less}
-use Rattle.gate_probe.specs.Words.{level_of, left_of, right_of, word_at, level_at, key_in}
-use Rattle.gate_probe.specs.Sound.{home, probed, probe_of, IsFanin, IsGate, IsReached, IsSoundAt, IsSound, IsWithin, IsPart, MayClaim}
+use Rattle.gate_probe.specs.Words.{level_of, left_of, right_of, word_at, level_at}
+use Rattle.gate_probe.specs.Sound.{home, probe_of, IsFanin, IsGate, IsReached, IsSoundAt, IsSound, IsWithin, MayClaim}
 use Rattle.gate_probe.specs.Views.{put, learnt, union}
 use Rattle.gate_probe.proofs.Parts.{word_parts}
 

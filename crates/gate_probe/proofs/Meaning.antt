@@ -1,17 +1,18 @@
 -- What the parts of sound words mean to a builder.
-use Rattle.std.proofs.Common.{◌≡◌, ◌≢◌, ℕ, zero, suc, ◌+◌, ◌-◌, ◌<◌, ◌≤◌, max, List, Bool, true, false, not, ◌&&◌, ◌||◌, IsTrue, inl, inr, sym, refl, ap, ap₂, ◌∙◌, subst, arith, nat_eq, nat_lt, if◌then◌else◌, Option, Some, None}
+use Rattle.std.proofs.Common.{◌≡◌, ◌≢◌, ℕ, ◌+◌, ◌-◌, ◌<◌, ◌≤◌, max, List, Bool, true, false, not, ◌&&◌, ◌||◌, IsTrue, inl, inr, sym, refl, ap, ap₂, ◌∙◌, subst, arith, nat_eq, nat_lt, if◌then◌else◌, Some, None}
 use Rattle.std.proofs.lemmas.Grind.{common_steps}
 use Rattle.gate_shape.specs.Literal.{Literal, opposite}
 use Rattle.gate_shape.specs.Edge.{Edge, Gate, gate, level, gate_edge, gate_level, same_sign}
-use Rattle.gate_shape.specs.Word.{gate_word, key_of, key_less, same_literal, false_literal, true_literal, simple_literal}
+use Rattle.gate_shape.specs.Word.{gate_word, key_less, same_literal, false_literal, true_literal, simple_literal}
 use Rattle.gate_shape.specs.Builds.{Meaning, edge, Known, Stands, Keeps, HasGate, OneEach}
 use Rattle.gate_shape.proofs.Listing.{stands_gate}
 use Rattle.gate_probe.specs.Words.{level_of, left_of, right_of, word_at, level_at, key_in}
 use Rattle.gate_probe.specs.Known.{meant}
-use Rattle.gate_probe.specs.Sound.{IsFanin, IsGate, IsSound, IsWithin, IsPart}
+use Rattle.gate_probe.specs.Sound.{IsFanin, IsGate, IsWithin, IsPart}
 use Rattle.gate_probe.proofs.Parts.{word_parts, level_packed, left_packed, right_packed, packed_some}
 use Rattle.gate_probe.proofs.Keeping.{level_here}
-use Rattle.gate_probe.proofs.Standing.{word_of, StandsIn, stands_more, one_literal, level_in, edge_gate, meant_stands, stands_meant}
+use Rattle.gate_probe.specs.Standing.{word_of, StandsIn}
+use Rattle.gate_probe.proofs.Standing.{stands_more, one_literal, level_in, edge_gate, meant_stands, stands_meant}
 
 pub known_inside : (m : Meaning) (l : Literal) → Known m l → 8193 ≤ l.node → IsTrue (m.known (l.node - 8193))
 known_inside m l k h =

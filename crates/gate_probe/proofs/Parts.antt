@@ -1,5 +1,5 @@
 -- A word is its level and its two literals.
-use Rattle.std.proofs.Common.{◌≡◌, ◌≢◌, ℕ, ◌+◌, ◌*◌, ◌/◌, ◌%◌, ◌<◌, ◌≤◌, Bool, true, false, sym, refl, ap, ap₂, ◌∙◌, arith, nat_eq, if◌then◌else◌}
+use Rattle.std.proofs.Common.{◌≡◌, ◌≢◌, ℕ, ◌+◌, ◌*◌, ◌/◌, ◌%◌, ◌<◌, Bool, true, false, sym, refl, ap, ap₂, ◌∙◌, arith, nat_eq, if◌then◌else◌}
 use Rattle.std.proofs.Math.Nat.{mod-add-div, div-div-eq-div-mul}
 use Rattle.std.proofs.lemmas.Grind.{common_steps}
 use Rattle.gate_shape.specs.Literal.{Literal, literal_number, number_literal}

@@ -1,19 +1,18 @@
 -- A search goes on.
-use Rattle.std.proofs.Common.{◌≡◌, ◌≢◌, ℕ, zero, suc, ◌+◌, ◌-◌, ◌*◌, ◌%◌, ◌<◌, ◌≤◌, List, Bool, true, false, ◌&&◌, ◌||◌, ◌==◌, length, sym, refl, ap, ap₂, ◌∙◌, subst, arith, if◌then◌else◌, mod-lt}
+use Rattle.std.proofs.Common.{◌≡◌, ◌≢◌, ℕ, zero, suc, ◌+◌, ◌-◌, ◌<◌, List, Bool, true, false, ◌||◌, ◌==◌, sym, refl, ap, ap₂, ◌∙◌, subst, arith, if◌then◌else◌}
 use Rattle.std.proofs.Math.Nat.{add-mod_right, mod-eq_of_lt}
 use mathlib.Core.Logic.{dite}
 use native.Mathlib.Decide.{dec_le, ℕ_discrete}
 use Rattle.gate_shape.specs.Literal.{Literal}
 use Rattle.gate_shape.specs.Word.{gate_word}
-use Rattle.gate_probe.specs.declared.prober.Move.{Move}
 use Rattle.gate_probe.specs.declared.prober.Move.TheVariants.{Load, Claim, Found, Full}
 use Rattle.gate_probe.specs.Words.{word_at, left_of, right_of}
 use Rattle.gate_probe.specs.Sound.{home, probed, IsGate, IsWithin, MayClaim}
 use Rattle.gate_probe.specs.Views.{put, learnt}
-use Rattle.gate_probe.specs.Moves.{Probe, started, place_of, move_after, passed_after, probe_after, MayTell, IsMove}
+use Rattle.gate_probe.specs.Moves.{Probe, place_of, move_after, probe_after, IsMove}
 use Rattle.gate_probe.specs.Searching.{IsTold, IsSearching}
 use Rattle.gate_probe.proofs.Parts.{left_packed, right_packed}
-use Rattle.gate_probe.proofs.Keeping.{put_here, put_else, put_at}
+use Rattle.gate_probe.proofs.Keeping.{put_here, put_else}
 
 -- what is learnt hides nothing, where a seen place holds its word
 pub learnt_keeps : (seen : List ℕ) (s w : ℕ) → (word_at seen s ≢ 0 → w ≡ word_at seen s) → IsWithin seen (learnt seen s w)
@@ -98,4 +97,3 @@ move_ok p w h = move_cases p w (w == p.word) (w == 0) (p.passed + 1 == p.places)
 pub turned : (seen : List ℕ) (p q : Probe) (s w : ℕ) (after : List ℕ) → IsSearching seen p → p.word ≢ 0 → p.passed < p.places → s ≡ place_of p → (word_at seen s ≢ 0 → w ≡ word_at seen s)
     → after ≡ learnt seen s w → q ≡ probe_after p w → IsSearching after q
 turned seen p q s w after h word in' at kept is-after is = rw (is-after, is, at) (searching_after seen p w h word (subst (λ x. word_at seen x ≢ 0 → w ≡ word_at seen x) at kept) (move_ok p w in'))
-

@@ -1,25 +1,15 @@
 -- Which literal stands for which tree, by recursion on the tree, and that this is what the words mean.
-use Rattle.std.proofs.Common.{◌≡◌, ◌≢◌, ℕ, zero, suc, ◌+◌, ◌-◌, ◌*◌, ◌/◌, ◌%◌, ◌<◌, ◌≤◌, max, List, Bool, true, false, not, ◌&&◌, IsTrue, sym, refl, ap, ap₂, ◌∙◌, subst, arith, nat_eq, nat_lt, if◌then◌else◌, true≢false}
+use Rattle.std.proofs.Common.{◌≡◌, ◌≢◌, ℕ, zero, suc, ◌+◌, ◌-◌, ◌*◌, ◌/◌, ◌%◌, ◌<◌, ◌≤◌, max, List, Bool, true, false, not, ◌&&◌, sym, refl, ap, ap₂, ◌∙◌, subst, arith, nat_eq, nat_lt, true≢false}
 use Rattle.std.proofs.lemmas.Grind.{common_steps}
 use Rattle.gate_shape.specs.Literal.{Literal}
-use Rattle.gate_shape.specs.Edge.{Edge, Gate, constant, input, gate, invert, level, gate_edge}
+use Rattle.gate_shape.specs.Edge.{Edge, constant, input, gate, level, gate_edge}
 use Rattle.gate_shape.specs.Builds.{Meaning, node_edge, with_sign, edge, Known, Stands}
-use Rattle.gate_probe.specs.Words.{level_of, left_of, right_of, word_at, level_at}
+use Rattle.gate_probe.specs.Words.{level_of, left_of, right_of, level_at}
 use Rattle.gate_probe.specs.Known.{fanin_known, known_within, placed, gate_within, meant}
 use Rattle.gate_probe.specs.Sound.{IsSound, IsWithin, IsPart}
+use Rattle.gate_probe.specs.Standing.{word_of, StandsIn}
 use Rattle.gate_probe.proofs.Parts.{literal_parts}
 use Rattle.gate_probe.proofs.Keeping.{level_here, level_leaf}
-
--- the word of a literal's gate
-abbrev pub word_of : List ℕ → Literal → ℕ
-word_of words l = word_at words (l.node - 8193)
-
-abbrev pub StandsIn : List ℕ → Literal → Edge → Type 0
-StandsIn words l (constant s) = (l.node ≡ 0) × (l.sign ≡ s)
-StandsIn words l (input s k j) = (k < 64) × (j < 128) × (l.node ≡ 1 + 128 * k + j) × (l.sign ≡ s)
-StandsIn words l (gate s a b) =
-    (8193 ≤ l.node) × (word_of words l ≢ 0) × (l.sign ≡ s)
-    × StandsIn words (left_of (word_of words l)) a × StandsIn words (right_of (word_of words l)) b
 
 -- what stands by a part of the words stands by all
 pub stands_more : (seen words : List ℕ) → IsWithin seen words → (e : Edge) (l : Literal) → StandsIn seen l e → StandsIn words l e

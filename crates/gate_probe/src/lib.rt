@@ -2,10 +2,12 @@
 //! plain list of words make alike; and, in `specs`, which words and views such a table may have.
 #![tactic(auto)]
 
+mod laws;
 mod prober;
 #[cfg(test)]
 mod tests;
 mod view;
 
+pub use laws::sound_words;
 pub use prober::{Move, Prober};
 pub use view::View;

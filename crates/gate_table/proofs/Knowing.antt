@@ -1,5 +1,5 @@
 -- What seats know, and what their calls build.
-use Rattle.std.proofs.Common.{◌≡◌, ◌≢◌, ℕ, zero, suc, ◌+◌, ◌-◌, ◌<◌, ◌≤◌, Bool, true, not, ◌&&◌, IsTrue, List, [], ◌∷◌, sym, refl, ap, ◌∙◌, subst, arith, nat_eq, slice_index_or, None, Result, Ok, Err, IfOk, IfErr}
+use Rattle.std.proofs.Common.{false, nat_lt, ◌≡◌, ◌≢◌, ℕ, zero, suc, ◌+◌, ◌-◌, ◌<◌, ◌≤◌, Bool, true, not, ◌&&◌, IsTrue, List, [], ◌∷◌, sym, refl, ap, ◌∙◌, subst, arith, nat_eq, slice_index_or, None, Result, Ok, Err, IfOk, IfErr}
 use Rattle.std.proofs.lemmas.Grind.{common_steps}
 use Rattle.gate_shape.specs.Literal.{Literal}
 use Rattle.gate_shape.specs.Edge.{Edge, Gate, level, gate_edge, gate_level}
@@ -15,7 +15,8 @@ use Rattle.gate_probe.specs.Known.{meant}
 use Rattle.gate_probe.specs.Sound.{IsWithin, IsPart}
 use Rattle.gate_probe.specs.Views.{view, put, learnt}
 use Rattle.gate_probe.specs.declared.view.View.{View}
-use Rattle.gate_probe.proofs.Standing.{word_of, edge_gate}
+use Rattle.gate_probe.specs.Standing.{word_of}
+use Rattle.gate_probe.proofs.Standing.{edge_gate}
 use Rattle.gate_probe.proofs.Meaning.{meant_more, meant_once, meant_fanins, meant_found, meant_none, gate_literal, gate_parts, known_inside}
 use Rattle.gate_table.specs.Plays.{Learns}
 use Rattle.gate_table.specs.Sitting.{Sitting, IsBelow, sees_first, table_numbers, known_by}
@@ -72,8 +73,7 @@ fanins_told s part l h le word is r e =
     let f = meant_fanins s.view.seen (sees_first s.table.words s.view.seen) (table_numbers s.table) part l h le in
     let x : r.1 ≡ left_of (word_of s.view.seen l) = ap (λ (q : ℕ × Literal × Literal). q.1) e ∙ ap left_of is in
     let y : r.2 ≡ right_of (word_of s.view.seen l) = ap (λ (q : ℕ × Literal × Literal). q.2) e ∙ ap right_of is in
-    let z : r.0 ≡ level_of (word_of s.view.seen l) = ap (λ (q : ℕ × Literal × Literal). q.0) e ∙ ap level_of is in
-    (
+    let z : r.0 ≡ level_of (word_of s.view.seen l) = ap (λ (q : ℕ × Literal × Literal). q.0) e ∙ ap level_of is in (
       (subst (Known (known_by s)) (sym x) f.1.known, subst (Known (known_by s)) (sym y) f.2.known),
       (λ i. record { left = (sym (ap (edge (known_by s)) x ∙ f.1.stands_for)) i; right = (sym (ap (edge (known_by s)) y ∙ f.2.stands_for)) i }),
       z ∙ f.3,
@@ -165,3 +165,28 @@ module _ (old new : Sitting) (part : IsPart new.view.seen) (table : new.table �
 pub level_positive : (lev : ℕ) (g : Gate) → lev ≡ gate_level g → 0 < lev
 unfolding gate_level
 level_positive lev g e = omega arith
+
+-- what is filled stays filled where what was seen is kept
+both_parts : (a b : Bool) → a && b ≡ true → (a ≡ true) × (b ≡ true)
+both_parts true b h = (refl, h)
+both_parts false b h = absurd (cc)
+
+pub seen_first : (n : ℕ) (seen : List ℕ) → sees_first n seen ≡ true → (s : ℕ) → s < n → word_at seen s ≢ 0
+unfolding sees_first
+seen_first zero seen h s l = absurd (omega arith)
+seen_first (suc k) seen h s l =
+    let p = both_parts (not (nat_eq (word_at seen k) 0)) (sees_first k seen) h in
+    by_last k s (word_at seen s ≢ 0) l (λ e z. absurd (some (word_at seen k) p.0 (ap (word_at seen) (sym e) ∙ z))) (λ i. seen_first k seen p.1 s i)
+  where
+    some : (w : ℕ) → not (nat_eq w 0) ≡ true → w ≢ 0
+    some w e z = grind (arith, common_steps)
+
+    by_last : (n s : ℕ) (P : Type 0) → s < suc n → (s ≡ n → P) → (s < n → P) → P
+    by_last n s P l f g = go (nat_lt s n) refl
+      where
+        go : (t : Bool) → nat_lt s n ≡ t → P
+        go true e = g (grind (arith, common_steps))
+        go false e = f (let b : n ≤ s = grind (arith, common_steps) in omega arith)
+
+pub filled_more : (n : ℕ) (seen more : List ℕ) → IsWithin seen more → sees_first n seen ≡ true → sees_first n more ≡ true
+filled_more n seen more in' h = sees_all n more (λ s l z. let t = seen_first n seen h s l in t (sym (in' s t) ∙ z))

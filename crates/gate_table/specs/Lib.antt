@@ -2,3 +2,4 @@ pub mod Sitting
 pub mod Plays
 pub mod Searches
 pub mod Answers
+pub mod Building

@@ -4,6 +4,7 @@
 
 mod build;
 mod builder;
+mod building;
 mod rule;
 mod seats;
 mod steps;

@@ -10,8 +10,7 @@ pub compare_exchange-found-requires : goal.compare_exchange-found-requires
 compare_exchange-found-requires c =
     let n = sym (ap (λ t. t.words) c.self.view_is) ∙ c.self.invariant.1 ∙ sym c.self.invariant.0 in
     let seen = sym (ap (λ v. v.view.seen) c.seat.view_is) in
-    let may : MayClaim c.self.inside.table.shared.key c.seat.inside.seat.me.0.seen c.args.word c.args.place = subst (λ k. MayClaim k c.seat.inside.seat.me.0.seen c.args.word c.args.place) n (subst (λ s. MayClaim c.args.self.now.words s c.args.word c.args.place) seen c.requires.allowed) in
-    (
+    let may : MayClaim c.self.inside.table.shared.key c.seat.inside.seat.me.0.seen c.args.word c.args.place = subst (λ k. MayClaim k c.seat.inside.seat.me.0.seen c.args.word c.args.place) n (subst (λ s. MayClaim c.args.self.now.words s c.args.word c.args.place) seen c.requires.allowed) in (
       ap (λ v. v.table) c.seat.view_is ∙ c.requires.seat ∙ sym c.self.view_is,
       subst (λ t. c.args.place < t.words) (sym c.self.view_is) (claim_place _ _ _ _ c.requires.allowed),
       rw c.seat.invariant.2 (claim_allowed _ _ _ _ _ _ may),

@@ -36,4 +36,3 @@ returns-else-before-clause-kept c = kept_same c.args.seat.now c.level-first.new.
 
 pub returns-else-before-clause-built : goal.returns-else-before-clause-built
 returns-else-before-clause-built c = let h = rw (c.key.ensures, c.key-2.ensures) at (sym c.if-before.ensures) in built_kept c.args.seat.now c.level-first.new.seat c.level-second.new.seat c.keeps.ensures.part c.level-first.ensures.table c.level-first.ensures.seen c.level-second.ensures.table c.level-second.ensures.seen c.args.a c.args.b c.requires.left c.requires.right c.requires.apart c.level-first.result c.level-second.result c.level-first.ensures.value c.level-second.ensures.value h (known_by c.place-else-before.new.seat) c.place-else-before.result c.place-else-before.ensures.built
-
