@@ -11,7 +11,7 @@ use Rattle.gate_probe.specs.declared.view.View.{View}
 use Rattle.gate_probe.specs.Sound.{IsSound, IsWithin, IsViewOf, MayClaim}
 use Rattle.gate_probe.specs.Views.{view, both, merged, put, learnt, union, stepped}
 use Rattle.gate_probe.proofs.Keeping.{set_within, within_more, claim_sound, claim_place, put_at, learnt_within, union_within, union_at}
-use Rattle.gate_table.specs.Sitting.{IsBelow}
+use Rattle.gate_table.specs.Seats.{IsBelow}
 use Rattle.gate_table.specs.Plays.{IsTable, Looks, Claims, Merges, left_there}
 
 -- all views are parts, also with one changed

@@ -11,12 +11,12 @@ use Rattle.gate_shape.proofs.Listing.{max-swap}
 use Rattle.gate_probe.specs.Words.{level_at, key_in}
 use Rattle.gate_probe.specs.Sound.{IsWithin, IsPart}
 use Rattle.gate_probe.proofs.Meaning.{meant_level}
-use Rattle.gate_table.specs.Sitting.{Sitting, known_by, sees_first, table_numbers}
+use Rattle.gate_table.specs.Seats.{SeatState, known_by, sees_first, table_numbers}
 use Rattle.gate_table.specs.Answers.{no_note, gate_of}
 use Rattle.gate_table.proofs.Knowing.{once, knows_same}
 use Rattle.gate_table.proofs.Conjoining.{key_asym, and_deep, row_swapped, row_kept}
 
-module _ (s0 s1 s2 : Sitting) (part : IsPart s0.view.seen) (t1 : s1.table ≡ s0.table) (e1 : s1.view.seen ≡ s0.view.seen) (t2 : s2.table ≡ s1.table) (e2 : s2.view.seen ≡ s1.view.seen)
+module _ (s0 s1 s2 : SeatState) (part : IsPart s0.view.seen) (t1 : s1.table ≡ s0.table) (e1 : s1.view.seen ≡ s0.view.seen) (t2 : s2.table ≡ s1.table) (e2 : s2.view.seen ≡ s1.view.seen)
     (a b : Literal) (ka : Known (known_by s0) a) (kb : Known (known_by s0) b) (apart : simple_literal a b ≡ None) (x y : ℕ) (ex : x ≡ level (edge (known_by s0) a)) (ey : y ≡ level (edge (known_by s1) b)) where
   first_same : known_by s1 ≡ known_by s0
   first_same = knows_same s0 s1 t1 e1

@@ -19,21 +19,21 @@ use Rattle.gate_probe.specs.Standing.{word_of}
 use Rattle.gate_probe.proofs.Standing.{edge_gate}
 use Rattle.gate_probe.proofs.Meaning.{meant_more, meant_once, meant_fanins, meant_found, meant_none, gate_literal, gate_parts, known_inside}
 use Rattle.gate_table.specs.Plays.{Learns}
-use Rattle.gate_table.specs.Sitting.{Sitting, IsBelow, sees_first, table_numbers, known_by}
+use Rattle.gate_table.specs.Seats.{SeatState, IsBelow, sees_first, table_numbers, known_by}
 use Rattle.gate_table.specs.Searches.{IsAt, IsMissed}
 use Rattle.gate_table.specs.Answers.{no_note, gate_of, IsAnswered}
 
 -- a seat that has seen more knows all that was known
-pub knows_more : (old new : Sitting) → IsPart new.view.seen → new.table ≡ old.table → IsWithin old.view.seen new.view.seen → Keeps (known_by old) (known_by new)
+pub knows_more : (old new : SeatState) → IsPart new.view.seen → new.table ≡ old.table → IsWithin old.view.seen new.view.seen → Keeps (known_by old) (known_by new)
 knows_more old new part same in' =
     subst (λ t. Keeps (known_by old) (meant new.view.seen (sees_first new.table.words new.view.seen) (table_numbers t))) (sym same)
     (meant_more old.view.seen new.view.seen (sees_first old.table.words old.view.seen) (sees_first new.table.words new.view.seen) (table_numbers old.table) part in')
 
 -- a seat of the same table that has seen the same knows the same
-pub knows_same : (old new : Sitting) → new.table ≡ old.table → new.view.seen ≡ old.view.seen → known_by new ≡ known_by old
+pub knows_same : (old new : SeatState) → new.table ≡ old.table → new.view.seen ≡ old.view.seen → known_by new ≡ known_by old
 knows_same old new t s = λ i. meant (s i) (sees_first (t i).words (s i)) (table_numbers (t i))
 
-pub once : (s : Sitting) → IsPart s.view.seen → OneEach (known_by s)
+pub once : (s : SeatState) → IsPart s.view.seen → OneEach (known_by s)
 once s part = meant_once s.view.seen (sees_first s.table.words s.view.seen) (table_numbers s.table) part
 
 pub agree_right : (m : Meaning) → OneEach m → (a b : Literal) → Known m a → Known m b → (t : Bool) → (t ≡ true → a ≡ b) → (a ≡ b → t ≡ true) → (t ≡ true → edge m a ≡ edge m b) × (edge m a ≡ edge m b → t ≡ true)
@@ -54,7 +54,7 @@ unfolding level
 level_some m l h = subst (λ (e : Edge). 1 ≤ level e) (sym (edge_gate m l h)) (omega arith)
 
 -- the word of a known gate, as a load finds it
-pub fanins_loaded : (s : Sitting) → IsPart s.view.seen → (l : Literal) → Known (known_by s) l → 8193 ≤ l.node → (p word : ℕ) (new : View) → p ≡ l.node - 8193 → Learns s.view p word new
+pub fanins_loaded : (s : SeatState) → IsPart s.view.seen → (l : Literal) → Known (known_by s) l → 8193 ≤ l.node → (p word : ℕ) (new : View) → p ≡ l.node - 8193 → Learns s.view p word new
     → (word ≡ word_of s.view.seen l) × (new ≡ view s.view.seen (s.view.steps + 1)) × (70368744177664 ≤ word)
 fanins_loaded s part l h le p word new at learns =
     let f = meant_fanins s.view.seen (sees_first s.table.words s.view.seen) (table_numbers s.table) part l h le in
@@ -66,7 +66,7 @@ fanins_loaded s part l h le p word new at learns =
     let some : 1 ≤ level_of word = subst (λ n. 1 ≤ n) (sym lv) (level_some (known_by s) l le) in
     (whole, learns.0 ∙ ap (λ z. view z (s.view.steps + 1)) same, omega arith)
 
-pub fanins_told : (s : Sitting) → IsPart s.view.seen → (l : Literal) → Known (known_by s) l → 8193 ≤ l.node → (word : ℕ) → word ≡ word_of s.view.seen l
+pub fanins_told : (s : SeatState) → IsPart s.view.seen → (l : Literal) → Known (known_by s) l → 8193 ≤ l.node → (word : ℕ) → word ≡ word_of s.view.seen l
     → (r : ℕ × Literal × Literal) → r ≡ (level_of word, left_of word, right_of word)
     → (Known (known_by s) r.1 × Known (known_by s) r.2) × ((known_by s).gate_at (l.node - 8193) ≡ gate_of (known_by s) r.1 r.2) × (r.0 ≡ level (edge (known_by s) l))
 fanins_told s part l h le word is r e =
@@ -110,7 +110,7 @@ pub refused_one : (old new : Meaning) (g : Gate) (C : Gate → Type 0) → new.t
 refused_one old new g C trace h = record { before = []; at = g; after = []; cut = refl; cause = h; has = none_has new; fit = none_fit; trace = trace }
 
 -- The gate of two known literals, at its level
-module _ (old new : Sitting) (part : IsPart new.view.seen) (table : new.table ≡ old.table) (in' : IsWithin old.view.seen new.view.seen) (left right : Literal) (kl : Known (known_by old) left) (kr : Known (known_by old) right) (lev : ℕ) (is : lev ≡ gate_level (gate_of (known_by old) left right)) (small : lev < 262144) (sl : left.node < 4194304) (sr : right.node < 4194304) where
+module _ (old new : SeatState) (part : IsPart new.view.seen) (table : new.table ≡ old.table) (in' : IsWithin old.view.seen new.view.seen) (left right : Literal) (kl : Known (known_by old) left) (kr : Known (known_by old) right) (lev : ℕ) (is : lev ≡ gate_level (gate_of (known_by old) left right)) (small : lev < 262144) (sl : left.node < 4194304) (sr : right.node < 4194304) where
   abbrev m : Meaning
   m = known_by old
 

@@ -12,7 +12,7 @@ use Rattle.gate_probe.specs.Searching.{IsTold, IsSearching}
 use Rattle.gate_probe.proofs.Keeping.{gate_more}
 use Rattle.gate_probe.proofs.Searching.{reaches}
 use Rattle.gate_probe.proofs.Meaning.{meant_level, gate_wanted}
-use Rattle.gate_table.specs.Sitting.{Sitting, known_by, sees_first, table_numbers}
+use Rattle.gate_table.specs.Seats.{SeatState, known_by, sees_first, table_numbers}
 use Rattle.gate_table.specs.Searches.{IsWanted, IsAt, IsMissed}
 use Rattle.gate_table.specs.Answers.{gate_of}
 
@@ -39,7 +39,7 @@ home_small n left right h = mod-lt _ (omega arith)
 pub wanted_more : (seen more : List ℕ) (left right : Literal) (lev : ℕ) → IsWithin seen more → IsWanted seen left right lev → IsWanted more left right lev
 wanted_more seen more left right lev in' w = record { gate = gate_more seen more (gate_word lev left right) in' w.gate; left_small = w.left_small; right_small = w.right_small; low = w.low; high = w.high }
 
-pub wanted : (s : Sitting) → IsPart s.view.seen → (left right : Literal) → Known (known_by s) left → Known (known_by s) right → left.node < 4194304 → right.node < 4194304 → simple_literal left right ≡ None
+pub wanted : (s : SeatState) → IsPart s.view.seen → (left right : Literal) → Known (known_by s) left → Known (known_by s) right → left.node < 4194304 → right.node < 4194304 → simple_literal left right ≡ None
     → key_less (key_in s.view.seen right) (key_in s.view.seen left) ≡ false → (lev : ℕ) → lev ≡ gate_level (gate_of (known_by s) left right) → lev < 262144 → IsWanted s.view.seen left right lev
 unfolding gate_level
 wanted s part left right kl kr x y apart order lev is small =

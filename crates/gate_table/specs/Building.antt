@@ -1,10 +1,10 @@
 -- What a builder over a seat holds.
 use Rattle.std.specs.Prelude.{ℕ}
 use Rattle.gate_table.specs.declared.builder.SeatBuilder.{SeatBuilder}
-use Rattle.gate_table.specs.Sitting.{Sitting}
+use Rattle.gate_table.specs.Seats.{SeatState}
 
 -- the seat that it lends, and the name of the reference to it
-abbrev pub seat_of : SeatBuilder → Sitting
+abbrev pub seat_of : SeatBuilder → SeatState
 seat_of b = b.seat.now
 
 abbrev pub name_of : SeatBuilder → ℕ

@@ -1,4 +1,4 @@
-pub mod Sitting
+pub mod Seats
 pub mod Plays
 pub mod Searches
 pub mod Answers

@@ -7,7 +7,7 @@ use Rattle.gate_probe.specs.Sound.{home, IsGate, IsWithin}
 use Rattle.gate_probe.specs.Moves.{Probe, moves_left}
 use Rattle.gate_probe.specs.Searching.{IsSearching}
 use Rattle.gate_probe.specs.declared.prober.Move.{Move}
-use Rattle.gate_table.specs.Sitting.{Sitting}
+use Rattle.gate_table.specs.Seats.{SeatState}
 
 -- the word of these fanins at this level may be wanted by a seat that has seen these words
 pub record IsWanted (seen : List ℕ) (left right : Literal) (level : ℕ) : Type 0 where
@@ -23,7 +23,7 @@ pub record IsSearchFor (n : ℕ) (left right : Literal) (level : ℕ) (p : Probe
   pub from : p.from ≡ home n left right
   pub word : p.word ≡ gate_word level left right
 
-pub record IsGoing (n : ℕ) (left right : Literal) (level : ℕ) (old now : Sitting) (p : Probe) (next : Move) : Type 0 where
+pub record IsGoing (n : ℕ) (left right : Literal) (level : ℕ) (old now : SeatState) (p : Probe) (next : Move) : Type 0 where
   pub table : now.table ≡ old.table
   pub kept : IsWithin old.view.seen now.view.seen
   pub for : IsSearchFor n left right level p

@@ -13,7 +13,7 @@ ghost use Rattle.gate_probe.specs.Sound.{IsWithin};
 ghost use Rattle.gate_probe.specs.Views.{view};
 ghost use Rattle.gate_probe.specs.Moves.{moves_left};
 ghost use Rattle.gate_probe.specs.Searching.{IsSearching};
-ghost use Rattle.gate_table.specs.Sitting.{known_by, IsCounted};
+ghost use Rattle.gate_table.specs.Seats.{known_by, IsCounted};
 ghost use Rattle.gate_table.specs.Searches.{IsWanted, IsSearchFor, IsAt, IsMissed};
 ghost use Rattle.gate_table.specs.Answers.{no_note, gate_of, IsAnswered};
 

@@ -20,7 +20,7 @@ impl<'a> SeatBuilder<'a> {
 
 impl<'a> Builder for SeatBuilder<'a> {
     ghost use Rattle.gate_table.specs.Building.{seat_of, name_of};
-    ghost use Rattle.gate_table.specs.Sitting.{known_through};
+    ghost use Rattle.gate_table.specs.Seats.{known_through};
     ghost use Rattle.gate_table.specs.Answers.{no_note};
 
     ghost meaning = { λ b. known_through (name_of b) (seat_of b) };

@@ -1,7 +1,7 @@
 //! The table and its seats.
 
 ghost use Rattle.gate_probe.specs.Sound.{IsPart};
-ghost use Rattle.gate_table.specs.Sitting.{IsBelow};
+ghost use Rattle.gate_table.specs.Seats.{IsBelow};
 
 use crate::rule::SoundWords;
 use atomic_table::{Seat, Table};
@@ -37,9 +37,9 @@ pub struct GateSeat {
 impl Model for GateSeat {
     ghost use Rattle.std.specs.Prelude.{◌≡◌, []};
     ghost use Rattle.gate_probe.specs.Sound.{IsPart};
-    ghost use Rattle.gate_table.specs.Sitting.{Sitting, IsBelow};
+    ghost use Rattle.gate_table.specs.Seats.{SeatState, IsBelow};
 
-    ghost Value = { Sitting };
+    ghost Value = { SeatState };
 
     ghost view = { λ s. record { table = s.seat.table_id; view = s.seat.me.0 } };
 

@@ -5,7 +5,7 @@ ghost use Rattle.gate_shape.specs.Builds.{Keeps};
 ghost use Rattle.gate_probe.specs.Sound.{IsWithin, MayClaim};
 ghost use Rattle.gate_probe.specs.Views.{view, union};
 ghost use Rattle.gate_table.specs.Plays.{Learns};
-ghost use Rattle.gate_table.specs.Sitting.{known_by};
+ghost use Rattle.gate_table.specs.Seats.{known_by};
 
 use crate::rule::{Both, Claim, Look, Merge, Twin};
 use crate::seats::{GateSeat, GateTable};

@@ -3,7 +3,7 @@
 
 ghost use Rattle.std.specs.Prelude.{◌≡◌, ◌<◌, IfOk};
 ghost use Rattle.gate_shape.specs.Builds.{Known, Keeps};
-ghost use Rattle.gate_table.specs.Sitting.{known_by};
+ghost use Rattle.gate_table.specs.Seats.{known_by};
 
 use crate::builder::SeatBuilder;
 use crate::seats::{GateSeat, GateTable};

@@ -1,5 +1,5 @@
 use Rattle.gate_shape.proofs.Building.{known_kept, known_answer}
-use Rattle.gate_table.specs.Sitting.{known_by}
+use Rattle.gate_table.specs.Seats.{known_by}
 use Rattle.gate_table.proofs.tests.build_three.Goals as goal
 
 pub invariant_of-result : goal.invariant_of-result

@@ -1,6 +1,6 @@
 use Rattle.std.proofs.Common.{◌≡◌}
 use Rattle.gate_shape.specs.Builds.{Known, Keeps}
-use Rattle.gate_table.specs.Sitting.{known_by}
+use Rattle.gate_table.specs.Seats.{known_by}
 use Rattle.gate_table.proofs.tests.chain.Given as goal
 
 -- the last literal is known, and so is all that was known at first

@@ -1,6 +1,6 @@
 use Rattle.std.proofs.Common.{◌≡◌}
 use Rattle.gate_shape.specs.Builds.{Known}
-use Rattle.gate_table.specs.Sitting.{known_by}
+use Rattle.gate_table.specs.Seats.{known_by}
 use Rattle.gate_table.proofs.tests.deepest_chain.Given as goal
 
 -- the last literal is known

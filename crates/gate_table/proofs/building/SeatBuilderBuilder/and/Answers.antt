@@ -1,5 +1,5 @@
 use Rattle.std.proofs.Common.{◌∷◌, ap}
-use Rattle.gate_table.specs.Sitting.{table_numbers}
+use Rattle.gate_table.specs.Seats.{table_numbers}
 use Rattle.gate_table.proofs.Conjoining.{rebased, once_based}
 use Rattle.gate_table.proofs.building.SeatBuilderBuilder.and.Goals as goal
 

@@ -1,4 +1,4 @@
-use Rattle.gate_table.specs.Sitting.{known_by}
+use Rattle.gate_table.specs.Seats.{known_by}
 use Rattle.gate_table.proofs.Knowing.{once, agree_right}
 use Rattle.gate_table.proofs.seats.GateTable.agree.Goals as goal
 

@@ -1,5 +1,5 @@
 use Rattle.std.proofs.Common.{sym, ◌∙◌}
-use Rattle.gate_table.specs.Sitting.{known_by}
+use Rattle.gate_table.specs.Seats.{known_by}
 use Rattle.gate_table.proofs.Knowing.{once}
 use Rattle.gate_table.proofs.Conjoining.{and_simple, deep_exact, full_cause, never_plain}
 use Rattle.gate_table.proofs.seats.GateTable.and.Goals as goal

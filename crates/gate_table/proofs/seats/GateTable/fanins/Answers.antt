@@ -2,7 +2,7 @@ use Rattle.std.proofs.Common.{◌<◌, ◌-◌, sym, ap, subst}
 use Rattle.gate_probe.specs.Words.{level_of, left_of, right_of}
 use Rattle.gate_probe.proofs.Parts.{word_is, left_small, right_small}
 use Rattle.gate_probe.proofs.Meaning.{meant_fanins}
-use Rattle.gate_table.specs.Sitting.{sees_first, table_numbers}
+use Rattle.gate_table.specs.Seats.{sees_first, table_numbers}
 use Rattle.gate_table.proofs.Knowing.{fanins_loaded, fanins_told}
 use Rattle.gate_table.proofs.seats.GateTable.fanins.Goals as goal
 

@@ -1,5 +1,5 @@
 use Rattle.std.proofs.Common.{sym}
-use Rattle.gate_table.specs.Sitting.{known_by}
+use Rattle.gate_table.specs.Seats.{known_by}
 use Rattle.gate_probe.proofs.Meaning.{simple_swap}
 use Rattle.gate_table.proofs.Gating.{order_swapped, order_kept, level_kept, level_swapped, deep_built, once_same, kept_same, built_swapped, built_kept}
 use Rattle.gate_table.proofs.seats.GateTable.gate.Goals as goal

@@ -7,7 +7,7 @@ use Rattle.gate_probe.specs.Words.{word_at}
 use Rattle.gate_probe.specs.Known.{meant}
 
 -- which table it is of, and its view
-pub record Sitting : Type 0 where
+pub record SeatState : Type 0 where
   pub table : TableId
   pub view : View
 
@@ -25,13 +25,13 @@ abbrev pub table_numbers : TableId → List ℕ
 table_numbers t = t.words ∷ t.slots ∷ t.views_name ∷ t.atom ∷ t.block ∷ t.offset ∷ t.slot_names
 
 -- What a seat means: it is filled where it has seen all places, and its trace stays empty
-abbrev pub known_by : Sitting → Meaning
+abbrev pub known_by : SeatState → Meaning
 known_by s = meant s.view.seen (sees_first s.table.words s.view.seen) (table_numbers s.table)
 
 -- the same to a builder that works through the reference of this name
-abbrev pub known_through : ℕ → Sitting → Meaning
+abbrev pub known_through : ℕ → SeatState → Meaning
 known_through name s = meant s.view.seen (sees_first s.table.words s.view.seen) (name ∷ table_numbers s.table)
 
 -- the number of loads and claims grew, by no more than so many
-abbrev pub IsCounted : ℕ → Sitting → Sitting → Type 0
+abbrev pub IsCounted : ℕ → SeatState → SeatState → Type 0
 IsCounted most old new = (old.view.steps ≤ new.view.steps) × (new.view.steps ≤ old.view.steps + most)
