@@ -1,0 +1,4 @@
+pub mod Roles
+pub mod Counts
+pub mod Depths
+pub mod Limits

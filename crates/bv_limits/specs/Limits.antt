@@ -1,0 +1,71 @@
+-- The limits that a file meets, and the one fault of a file that isn't read.
+use Rattle.std.specs.Prelude.{◌≡◌, ℕ, ◌+◌, ◌<◌, ◌≤◌, List, length, Some, slice_get, map, ◌⊎◌}
+use Rattle.bv_lex.specs.declared.token.Token.{Token}
+use Rattle.bv_lex.specs.declared.token.TokenKind.TheVariants.{Numeral}
+use Rattle.bv_lex.specs.declared.fault.What.{What}
+use Rattle.bv_lex.specs.declared.fault.What.TheVariants as what
+use Rattle.bv_grammar.specs.declared.words.Terminal.{Terminal}
+use Rattle.bv_grammar.specs.declared.words.Role.TheVariants as roles
+use Rattle.bv_grammar.specs.Grammar.{Symbol}
+use Rattle.bv_grammar.specs.declared.words.Role.{Role}
+use Rattle.bv_grammar.specs.Derivation.{IsFile, IsSyntaxFault}
+use Rattle.bv_grammar.specs.Taking.{IsTakenAs, waiting}
+use Rattle.bv_trees.specs.Trees.{Tree}
+use Rattle.bv_limits.specs.Roles.{IsRole, IsHead, IsTermToken, IsVariable}
+use Rattle.bv_limits.specs.Counts.{Count}
+use Rattle.bv_limits.specs.Depths.{depth, Complete}
+
+-- the head of the goal in which i stands is at h
+pub record IsHeadOf (ts : List Terminal) (h i : ℕ) : Type 0 where
+  pub head : IsHead ts h
+  pub before : h < i
+  pub last : (k : ℕ) → h < k → k < i → IsHead ts k → ⊥
+
+-- a numeral at i that is no width: 0, or above 128
+pub record IsNoWidth (tokens : List Token) (i : ℕ) : Type 0 where
+  pub number : ℕ
+  pub token : Token
+  pub there : slice_get tokens i ≡ Some token
+  pub value : token.kind ≡ Numeral number
+  pub wide : (number ≡ 0) ⊎ (128 < number)
+
+-- a limit is met at a place among the first `end` terminals, which are reached
+pub data IsLimit (tokens : List Token) (ts : List Terminal) (end : ℕ) : What → ℕ → Type 0 where
+  -- the 1,025th goal
+  goals : {at : ℕ} → at < end → IsHead ts at → Count (IsHead ts) 0 at 1024 → IsLimit tokens ts end what.Goals at
+  -- the 65th variable of a goal
+  variables : {h at : ℕ} → at < end → IsHeadOf ts h at → IsVariable ts end at → Count (IsVariable ts end) h at 64 → IsLimit tokens ts end what.Variables at
+  -- the 100,001st token of a goal's terms
+  nodes : {h at : ℕ} → at < end → IsHeadOf ts h at → IsTermToken ts at → Count (IsTermToken ts) h at 100000 → IsLimit tokens ts end what.Nodes at
+  width : {at : ℕ} → at < end → IsRole ts roles.Width at → IsNoWidth tokens at → IsLimit tokens ts end what.Width at
+  nested : {at : ℕ} {r : Role} {b : List Symbol} → at < end → IsTakenAs ts at r b → 1000 < waiting b → IsLimit tokens ts end what.Depth at
+  deep : {at j : ℕ} {x : Tree} → at < end → Complete ts at x j → j ≤ end → 1000 < depth x → IsLimit tokens ts end what.Depth at
+
+-- the order in which limits at one token are answered
+abbrev pub rank : What → ℕ
+rank what.Number = 0
+rank what.Width = 1
+rank what.Depth = 2
+rank what.Nodes = 3
+rank what.Variables = 4
+rank what.Goals = 5
+
+-- a limit at a place is answered before another, or is that one
+abbrev pub IsBefore : ℕ → What → ℕ → What → Type 0
+IsBefore at w at' w' = (at < at') ⊎ ((at ≡ at') × (rank w ≤ rank w'))
+
+-- the first terminals that are reached: all, or those before the syntax fault
+pub data Reaches (ts : List Terminal) (end : ℕ) : Type 0 where
+  whole : end ≡ length ts → IsFile ts → Reaches ts end
+  faulty : IsSyntaxFault ts end → Reaches ts end
+
+-- the limit that is answered: the least
+pub record IsFirstLimit (tokens : List Token) (ts : List Terminal) (w : What) (at : ℕ) : Type 0 where
+  pub end : ℕ
+  pub reaches : Reaches ts end
+  pub limit : IsLimit tokens ts end w at
+  pub first : (w' : What) (at' : ℕ) → IsLimit tokens ts end w' at' → IsBefore at w at' w'
+
+-- no limit is met
+abbrev pub IsWithinLimits : List Token → List Terminal → Type 0
+IsWithinLimits tokens ts = (end : ℕ) → Reaches ts end → (w : What) (at : ℕ) → IsLimit tokens ts end w at → ⊥

@@ -1,0 +1,12 @@
+//! Laws of the limits of a file.
+
+ghost use Rattle.std.specs.Prelude.{◌≡◌, ℕ, List};
+ghost use Rattle.bv_lex.specs.declared.token.Token.{Token};
+ghost use Rattle.bv_lex.specs.declared.fault.What.{What};
+ghost use Rattle.bv_grammar.specs.declared.words.Terminal.{Terminal};
+ghost use Rattle.bv_limits.specs.Limits.{IsFirstLimit};
+
+/// The first limit of a file has one place and is of one kind.
+pub fn one_first_limit()
+    ensures { (tokens : List Token) (ts : List Terminal) (w w' : What) (at at' : ℕ) → IsFirstLimit tokens ts w at → IsFirstLimit tokens ts w' at' → (w ≡ w') × (at ≡ at') }
+{}
