@@ -1,6 +1,7 @@
 //! Runs over a keeper and a sink in memory: the printed lines, and what a failing device leaves.
+ghost use Rattle.std.specs.Prelude.{Some};
 use crate::run_single;
-use bvd_host::{MapKeeper, VecSink};
+use bvd_host::{MapKeeper, Sink, SinkStop, VecSink};
 use std::alloc::{AllocError, Global};
 use std::collections::BTreeMap;
 
@@ -332,10 +333,17 @@ const FALSE_LINE: &[u8] = b"example : 1#1 = 0#1 := by bv_decide\n";
 #[test]
 fn a_long_report_is_told_in_pieces(rt: HostRuntime) -> Result<(), AllocError> {
     let mut file = Vec::new(rt.alloc());
-    for _ in 0..300 {
+    for _ in 0..450 {
         file.extend_from_slice(FALSE_LINE)?;
     }
-    for (told, status, length) in [(0, 1, 5940), (1, 6, 0), (2, 6, 4096), (3, 1, 5940)] {
+    let rows = [
+        (0, 1, 8940),
+        (1, 6, 0),
+        (2, 6, 4096),
+        (3, 6, 8192),
+        (4, 1, 8940),
+    ];
+    for (told, status, length) in rows {
         let failing = Failing {
             read: 0,
             write: 0,
@@ -345,6 +353,44 @@ fn a_long_report_is_told_in_pieces(rt: HostRuntime) -> Result<(), AllocError> {
         assert_eq!(rt; ran.status, status);
         assert_eq!(rt; ran.report.len(), length);
     }
+    Ok(())
+}
+
+/// An output that takes three bytes of a piece at most.
+#[derive(Drop)]
+struct NarrowSink {
+    held: Vec<u8>,
+}
+
+impl Sink for NarrowSink {
+    ghost written = { λ s. Some s.held.items };
+
+    ghost faults = { λ s. 0 };
+
+    fn write(&mut self, bytes: &[u8]) -> Result<usize, SinkStop> {
+        let count = bytes.len().min(3);
+        self.held
+            .extend_from_slice(&bytes[..count])
+            .map_err(SinkStop::Memory)?;
+        Ok(count)
+    }
+}
+
+#[test]
+fn an_output_that_takes_pieces_in_part_has_it_all(rt: HostRuntime) -> Result<(), AllocError> {
+    let none: Vec<u64> = Vec::new(rt.alloc());
+    let mut keeper = MapKeeper::new(
+        rt.alloc(),
+        BTreeMap::new(rt.alloc()),
+        none,
+        Vec::new(rt.alloc()),
+    );
+    let mut out = NarrowSink {
+        held: Vec::new(rt.alloc()),
+    };
+    let status = run_single(rt.alloc(), &[], &mut keeper, &mut out);
+    assert_eq!(rt; status, 2);
+    assert!(rt; out.held.as_slice() == USAGE);
     Ok(())
 }
 
