@@ -1,6 +1,15 @@
--- The text of an operation in pieces: before its first part, and behind it up to the end of its sign or method.
+-- How the code keeps a form, and the text of an operation in pieces: what stands before its first part, and what stands
+-- behind it up to the end of its sign or method.
 use Rattle.std.specs.Prelude.{ℕ, Bool, if◌then◌else◌, List, [], ◌++◌, codes}
+use Rattle.bv_print.specs.declared.spelling.Spelling.{Spelling}
+use Rattle.bv_print.specs.declared.spelling.Spelling.TheVariants as spelled
 use Rattle.bv_print.specs.Spelling.{Form, Prefix, Infix, Method}
+
+-- The form that a spelling tells.
+abbrev pub form_of : Spelling → Form
+form_of (spelled.Prefix sign) = Prefix sign.now
+form_of (spelled.Infix sign) = Infix sign.now
+form_of (spelled.Method name) = Method name.now
 
 -- What stands before the first part. The flag tells that this is a constant.
 abbrev pub text_before : Form → Bool → List ℕ

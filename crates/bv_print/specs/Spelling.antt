@@ -4,8 +4,6 @@ use Rattle.bv_expr.specs.declared.ops.Unary.{Unary}
 use Rattle.bv_expr.specs.declared.ops.Unary.TheVariants as of
 use Rattle.bv_expr.specs.declared.ops.Binary.{Binary}
 use Rattle.bv_expr.specs.declared.ops.Binary.TheVariants as on
-use Rattle.bv_print.specs.declared.spelling.Spelling.{Spelling}
-use Rattle.bv_print.specs.declared.spelling.Spelling.TheVariants as spelled
 
 -- A sign before its part, a sign behind its first part, or a method of its first part.
 pub data Form : Type 0 where
@@ -72,9 +70,3 @@ binary_form on.TOr = Infix (codes "||")
 binary_form on.TXor = Infix (codes "^^")
 binary_form on.Implies = Infix (codes "->")
 binary_form on.TEq = Infix (codes "=")
-
--- The form that the code keeps.
-abbrev pub form_of : Spelling → Form
-form_of (spelled.Prefix sign) = Prefix sign.now
-form_of (spelled.Infix sign) = Infix sign.now
-form_of (spelled.Method name) = Method name.now

@@ -134,8 +134,13 @@ fn push_line(out: &mut Vec<u8>, goal: &Goal) -> Result<(), AllocError>
     push_conclusion(out, goal)
 }
 
-/// Appends the canonical line of a goal, with its line feed: names, constants and truths stand alone, and every other term
-/// stands in brackets. Where memory is refused, nothing is appended.
+/// Appends the canonical line of a goal, with its line feed, as
+/// `theorem s (x : BitVec 8) (h : (0x03#8 < x)) : (!(x = 0x00#8)) := by bv_decide`.
+///
+/// Names, constants and truths stand alone, and every other term stands in brackets, as does a constant that a method is
+/// called of, so that the text rests on no operator's level. A goal of the name `example` begins with that word alone, and
+/// one with a stored certificate ends with `bv_check` and the certificate's file. Where memory is refused, nothing is
+/// appended.
 ///
 /// Takes time by the number of bytes that it appends, and stack by the depth of the terms.
 #[tactic(auto, using(crate::proofs::Fronts::cut_back))]

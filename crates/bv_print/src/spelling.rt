@@ -1,7 +1,8 @@
 //! How operators are written.
 
 ghost use Rattle.std.specs.Prelude.{◌≡◌};
-ghost use Rattle.bv_print.specs.Spelling.{binary_form, form_of, unary_form};
+ghost use Rattle.bv_print.specs.Pieces.{form_of};
+ghost use Rattle.bv_print.specs.Spelling.{binary_form, unary_form};
 
 use bv_expr::{Binary, Unary};
 

@@ -2,9 +2,9 @@
 //! part, what stands behind it, and the other part or the numbers that it keeps.
 
 ghost use Rattle.std.specs.Prelude.{◌≡◌, ◌++◌, codes, decimal, OnOk, OnErr};
-ghost use Rattle.bv_print.specs.Spelling.{form_of, kept_numbers};
+ghost use Rattle.bv_print.specs.Spelling.{kept_numbers};
 ghost use Rattle.bv_print.specs.Canonical.{choice_text, is_constant, name_at, numbers_text, term_text};
-ghost use Rattle.bv_print.specs.Pieces.{text_before, text_behind};
+ghost use Rattle.bv_print.specs.Pieces.{form_of, text_before, text_behind};
 ghost use Rattle.bv_print.specs.Values.{Begins};
 
 use crate::spelling::{Spelling, binary_spelling, unary_spelling};

@@ -1,7 +1,8 @@
 use Rattle.std.proofs.Common.{◌≡◌, ◌++◌, ◌∙◌, codes, sym, ap, append_assoc}
 use Rattle.bv_expr.specs.Shape.{shape_term}
 use Rattle.bv_expr.specs.Term.{unary, binary}
-use Rattle.bv_print.specs.Spelling.{form_of, unary_form, binary_form, kept_numbers}
+use Rattle.bv_print.specs.Spelling.{unary_form, binary_form, kept_numbers}
+use Rattle.bv_print.specs.Pieces.{form_of}
 use Rattle.bv_print.specs.Canonical.{is_constant, numbers_text, term_text}
 use Rattle.bv_print.proofs.Fronts.{where_extended}
 use Rattle.bv_print.proofs.Operations.{appended_in_pieces}
