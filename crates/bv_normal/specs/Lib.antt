@@ -1,0 +1,14 @@
+pub mod Same
+pub mod Constants
+pub mod Fitting
+pub mod Folding
+pub mod Operands
+pub mod Comparisons
+pub mod Shifts
+pub mod Choices
+pub mod Quotients
+pub mod Widths
+pub mod Rewrites
+pub mod Parts
+pub mod Normal
+pub mod Goals
