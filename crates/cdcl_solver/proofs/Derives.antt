@@ -16,7 +16,7 @@ use Rattle.search_learn.specs.Analysis.{Lesson, lesson}
 use Rattle.search_learn.specs.Machine.{Clause, State, Moved, Machine, clause_at, false_clause, numbered, start, step, logged, next_id, after_move, advance, steps, machine}
 use Rattle.search_learn.proofs.Cases.{case_ended, steps_last}
 use Rattle.search_learn.proofs.Counted.{IsTaught, step_taught, run_logged}
-use Rattle.search_learn.proofs.Hints.{hints_earlier}
+use Rattle.search_learn.proofs.Hints.{hints_earlier, rising_end}
 use Rattle.search_learn.proofs.Keeps.{Kept, Rising}
 use Rattle.search_learn.proofs.Lessons.{found_here}
 use Rattle.search_learn.proofs.Reached.{reached_kept}
@@ -31,6 +31,7 @@ use Rattle.cdcl_solver.proofs.Finished.Learns.{nothing, last, another}
 use Rattle.cdcl_solver.proofs.Going.{inputs_steps}
 use Rattle.search_learn.specs.Engine.{Engine}
 use Rattle.sat_form.specs.Shape.{is_formula, variables_within}
+use Rattle.sat_form.proofs.Numbers.{eq_not_below}
 use Rattle.sat_form.proofs.Sets.{absurd_bool, both}
 use Rattle.lrat_trim.specs.Derivation.{Derivation, IsFinished, are_earlier}
 use Rattle.cdcl_solver.specs.Kept.{IsRunning}
@@ -67,18 +68,11 @@ given_same k (c ∷ cs) id =
     ∙ ap (λ o. cond (nat_eq k id) (Some c) o) (given_same (k + 1) cs id)
     ∙ sym (lits_first (record { id = k; lits = c }) (numbered (k + 1) cs) id)
 
-differs : (m n : ℕ) → m < n → nat_eq m n ≡ false
-differs m n h = grind (arith, common_steps)
-
-rising_end : (low high : ℕ) (cs : List Clause) → Rising low high cs → low ≤ high
-rising_end low high [] h = h
-rising_end low high (c ∷ cs) h = let a = h.0 in let b = rising_end (c.id + 1) high cs h.1 in omega arith
-
 none_above : (low high : ℕ) (cs : List Clause) (id : ℕ) → Rising low high cs → high ≤ id → lits_at cs id ≡ None
 none_above low high [] id rising over = refl
 none_above low high (c ∷ cs) id rising over =
     let under = rising_end (c.id + 1) high cs rising.1 in
-    lits_first c cs id ∙ ap (λ b. cond b (Some c.lits) (lits_at cs id)) (differs c.id id (omega arith)) ∙ none_above (c.id + 1) high cs id rising.1 over
+    lits_first c cs id ∙ ap (λ b. cond b (Some c.lits) (lits_at cs id)) (eq_not_below c.id id (omega arith)) ∙ none_above (c.id + 1) high cs id rising.1 over
 
 -- one clause more, under an id that was free
 lits_push : (cs : List Clause) (c : Clause) (id : ℕ) → lits_at cs c.id ≡ None → lits_at (cs ++ c ∷ []) id ≡ cond (nat_eq c.id id) (Some c.lits) (lits_at cs id)

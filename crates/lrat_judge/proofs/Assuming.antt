@@ -10,7 +10,7 @@ use Rattle.sat_form.specs.Assignment.{is_true}
 use Rattle.lrat_lines.specs.Judge.{two_opposite, others}
 use Rattle.lrat_judge.specs.Marked.{Same}
 use Rattle.lrat_judge.specs.Assumed.{blocked, rest_of, Assumes}
-use Rattle.lrat_judge.proofs.Sets.{same_is, same_itself, nat_itself}
+use Rattle.sat_form.proofs.Sets.{same_is, same_itself, nat_itself}
 
 pub any_same : (p q : Literal → Bool) → ((l : Literal) → p l ≡ q l) → (c : List Literal) → list_any p c ≡ list_any q c
 any_same p q h [] = refl

@@ -14,7 +14,7 @@ use Rattle.std.proofs.lemmas.Grind.{common_steps}
 use Rattle.sat_form.specs.Literals.{Literal}
 use Rattle.lrat_lines.specs.Judge.{Clauses, Entry, clause_of, add_clause, delete_clauses}
 use borrow.Author.Tests.{ltb-true, ltb-false}
-use Rattle.lrat_judge.proofs.Sets.{nat_is}
+use Rattle.sat_form.proofs.Sets.{nat_is}
 
 -- how two numbers compare
 pub data Compared (x y : ℕ) : Type 0 where

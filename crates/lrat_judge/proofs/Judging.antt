@@ -7,7 +7,7 @@ use Rattle.std.specs.Option.{option_map}
 use Rattle.std.specs.declared.option.Option.{Option}
 use Rattle.std.proofs.lemmas.List.{append-nil}
 use Rattle.std.proofs.lemmas.Grind.{common_steps}
-use Rattle.lrat_judge.proofs.Sets.{nat_itself}
+use Rattle.sat_form.proofs.Sets.{nat_itself}
 use Rattle.sat_form.specs.Literals.{Literal, negate}
 use Rattle.sat_form.specs.Assignment.{is_true}
 use Rattle.lrat_lines.specs.Judge as judge

@@ -1,4 +1,3 @@
-pub mod Sets
 pub mod Entries
 pub mod Given
 pub mod Marking

@@ -11,7 +11,7 @@ use Rattle.sat_form.specs.Literals.{Literal, negate, same_literal, same_sign, me
 use Rattle.sat_form.specs.Assignment.{is_true, is_false, is_assigned, clause_false, unit_literal}
 use Rattle.lrat_judge.specs.Values.{Gets}
 use Rattle.lrat_judge.specs.Marked.{makes_true, AreTrueAt, IsTrail, Same}
-use Rattle.lrat_judge.proofs.Sets.{neither, nat_is}
+use Rattle.sat_form.proofs.Sets.{neither, nat_is}
 
 abbrev lit : ℕ → Bool → Literal
 lit v p = record { var = v; positive = p }

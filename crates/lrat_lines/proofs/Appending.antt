@@ -1,9 +1,9 @@
 -- Words that are appended one by one.
-use Rattle.std.proofs.Common.{◌≡◌, ℕ, zero, suc, ◌+◌, ◌<◌, ◌≤◌, Bool, true, false, List, [], ◌∷◌, ◌++◌, refl, ap, sym, ◌∙◌, map, arith, length, take, get_or}
+use Rattle.std.proofs.Common.{◌≡◌, ℕ, zero, suc, ◌+◌, ◌<◌, ◌≤◌, List, [], ◌∷◌, ◌++◌, refl, ap, sym, ◌∙◌, map, arith, length, take, get_or}
 use Rattle.std.specs.Fmt.{decimal}
 use Rattle.std.proofs.lemmas.Fmt.{decimal_digit}
 use Rattle.std.proofs.lemmas.Grind.{flat_map-append}
-use Rattle.std.proofs.lemmas.List.{append_assoc, append-nil, take_all, take_more, take-append-le, length-take, length-append}
+use Rattle.std.proofs.lemmas.List.{append_assoc, append-nil, take_all, take_more, take-append-le, length-take}
 use Rattle.std.specs.Prelude.{Ok, Err, OnOk, is_ok, cond}
 use Rattle.std.specs.declared.result.Result.{Result}
 use Rattle.lrat_lines.specs.Spaced.{spaced}

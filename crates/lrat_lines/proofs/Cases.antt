@@ -1,11 +1,11 @@
 -- What a text that begins so isn't.
-use Rattle.std.proofs.Common.{subst, ◌^◌, ◌≡◌, ◌≢◌, ℕ, ℤ, Bool, true, false, ◌&&◌, List, [], ◌∷◌, ◌++◌, refl, ap, sym, ◌∙◌, map, arith, length, ◌<◌, get_or, zero, suc}
+use Rattle.std.proofs.Common.{subst, ◌^◌, ◌≡◌, ◌≢◌, ℕ, ℤ, Bool, true, false, ◌&&◌, List, [], ◌∷◌, ◌++◌, ap, sym, ◌∙◌, map, arith, ◌<◌, get_or}
 use Rattle.std.specs.List.{list_all}
 use Rattle.std.specs.Fmt.{decimal, signed_decimal}
 use Rattle.std.specs.Str.{all_ascii_digits}
-use Rattle.std.proofs.lemmas.Fmt.{digits_decimal, decimal_digit}
+use Rattle.std.proofs.lemmas.Fmt.{digits_decimal}
 use Rattle.sat_form.specs.Literals.{Literal}
-use Rattle.lrat_lines.specs.Lines.{Line, AreWords, IsSkipped, is_id, is_literal, is_hint, literal_number, is_line}
+use Rattle.lrat_lines.specs.Lines.{Line, AreWords, IsSkipped, is_id, is_literal, is_hint, literal_number}
 use Rattle.lrat_lines.specs.Lines.Line.{Add, Delete, Skip}
 use Rattle.lrat_lines.specs.Sign.{with_sign}
 use Rattle.lrat_lines.proofs.Numbers.{both, own, literal_word, literal_range}

@@ -4,7 +4,6 @@ pub mod Lists
 pub mod Cases
 pub mod Spelling
 pub mod Readings
-pub mod Members
 pub mod Sound
 pub mod Refutes
 pub mod Verdicts

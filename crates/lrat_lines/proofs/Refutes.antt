@@ -1,23 +1,20 @@
 -- Where the lines check, no values satisfy the clauses.
-use Rattle.std.proofs.Common.{subst, ◌≡◌, ◌≢◌, ℕ, zero, suc, ◌+◌, ◌<◌, ◌≤◌, Bool, true, false, not, ◌&&◌, ◌||◌, cond, List, [], ◌∷◌, ◌++◌, refl, ap, sym, ◌∙◌, ◌⊎◌, inl, inr, nat_eq, nat_lt, map, arith, ℤ}
+use Rattle.std.proofs.Common.{subst, ◌≡◌, ℕ, ◌+◌, ◌<◌, ◌≤◌, Bool, true, false, not, ◌&&◌, ◌||◌, cond, List, [], ◌∷◌, ◌++◌, refl, ap, sym, ◌∙◌, nat_eq, nat_lt, map, arith}
 use Rattle.std.specs.Prelude.{Some, None, Ok, Err, is_some}
 use Rattle.std.specs.List.{list_any, list_all, find, filter}
 use Rattle.std.specs.Option.{option_map, option_or}
 use Rattle.std.specs.declared.option.Option.{Option}
-use Rattle.std.specs.declared.result.Result.{Result}
 use Rattle.std.proofs.lemmas.Grind.{common_steps}
 use Rattle.std.proofs.lemmas.List.{append_assoc}
 use Rattle.std.proofs.lemmas.List.Folds.{find-append}
-use Rattle.sat_form.specs.Literals.{Literal, negate, same_literal, member, without}
-use Rattle.sat_form.specs.Assignment.{clause_false}
+use Rattle.sat_form.specs.Literals.{Literal, negate, member}
 use Rattle.sat_form.specs.Truth.{literal_true, clause_true, satisfies, HaveNoValues}
 use Rattle.lrat_lines.specs.Lines.{Line}
 use Rattle.lrat_lines.specs.Lines.Line.{Add, Delete, Skip}
-use Rattle.lrat_lines.specs.Judge.{Clauses, Entry, Cause, Taken, Group, Hints, clause_of, take_hints, two_opposite, judge_groups, judge_missing, judge_pivot, judge_first, judge_add, is_missed, add_clause, delete_clauses, added, judge, split_hints, is_last, given, given_from, checks_from, Checks}
+use Rattle.lrat_lines.specs.Judge.{Clauses, Entry, Cause, Group, Hints, clause_of, take_hints, two_opposite, judge_groups, judge_missing, judge_pivot, judge_first, judge_add, is_missed, add_clause, delete_clauses, added, judge, split_hints, is_last, given, given_from, checks_from, Checks}
 use Rattle.lrat_lines.specs.Judge.Taken.{Conflict, Units, Stop}
 use Rattle.lrat_lines.specs.Judge.Cause.{IdInUse, MissingGroup}
-use Rattle.sat_form.proofs.Sets.{both, join, neither, one_of, either_left, either_right, nat_is, nat_itself, absurd_bool}
-use Rattle.lrat_lines.proofs.Members.{clash, some_member, member_any}
+use Rattle.sat_form.proofs.Sets.{clash, some_member, member_any, both, join, either_left, nat_itself, absurd_bool}
 use Rattle.lrat_lines.proofs.Sound.{holds, agrees, Good, negated, agrees_negated, hints_good, flipped, pivot_true, entry_true}
 
 -- the ids rise

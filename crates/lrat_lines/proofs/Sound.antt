@@ -1,19 +1,16 @@
 -- A line that checks keeps the clauses satisfiable.
-use Rattle.std.proofs.Common.{subst, ◌≡◌, ◌≢◌, ℕ, zero, suc, ◌+◌, ◌<◌, ◌≤◌, Bool, true, false, not, ◌&&◌, ◌||◌, cond, List, [], ◌∷◌, ◌++◌, refl, ap, sym, ◌∙◌, ◌⊎◌, inl, inr, nat_eq, nat_lt, map, arith, ℤ}
-use Rattle.std.specs.Prelude.{Some, None, Ok, Err, is_some}
-use Rattle.std.specs.List.{list_any, list_all, find, filter}
+use Rattle.std.proofs.Common.{subst, ◌≡◌, ℕ, Bool, true, false, not, ◌&&◌, ◌||◌, cond, List, [], ◌∷◌, ◌++◌, refl, ap, sym, ◌∙◌, inl, inr, nat_eq, map}
+use Rattle.std.specs.Prelude.{Some, None}
+use Rattle.std.specs.List.{list_any, list_all, find}
 use Rattle.std.specs.Option.{option_map}
 use Rattle.std.specs.declared.option.Option.{Option}
-use Rattle.std.specs.declared.result.Result.{Result}
-use Rattle.std.proofs.lemmas.Grind.{common_steps}
 use Rattle.sat_form.specs.Literals.{Literal, negate, same_sign, same_literal, member, without}
 use Rattle.sat_form.specs.Assignment.{is_true, is_false, clause_false, unit_literal}
 use Rattle.sat_form.specs.Truth.{literal_true, clause_true}
-use Rattle.lrat_lines.specs.Judge.{Clauses, Entry, Cause, Taken, Group, Hints, clause_of, take_hints, take_clause, take_unit, two_opposite, judge_group_clause, judge_groups, judge_missing, judge_pivot, judge_first, judge_add, is_missed, group_done, others, add_clause}
+use Rattle.lrat_lines.specs.Judge.{Clauses, Entry, Cause, Taken, Group, clause_of, take_hints, take_clause, take_unit, two_opposite, judge_group_clause, judge_groups, is_missed, group_done}
 use Rattle.lrat_lines.specs.Judge.Taken.{Conflict, Units, Stop}
-use Rattle.lrat_lines.specs.Judge.Cause.{IdInUse, NoConflict, NoClause, NotUnit, StrangeGroup, MissingGroup}
-use Rattle.sat_form.proofs.Sets.{without_itself, both, join, neither, one_of, either_left, either_right, nat_is, nat_itself, sign_itself, same_is, same_itself, member_all, member_without, all_members, other_false, absurd_bool}
-use Rattle.lrat_lines.proofs.Members.{clash, some_member, member_any}
+use Rattle.lrat_lines.specs.Judge.Cause.{StrangeGroup}
+use Rattle.sat_form.proofs.Sets.{clash, some_member, member_any, without_itself, both, join, neither, one_of, nat_is, nat_itself, sign_itself, same_is, same_itself, member_all, member_without, other_false, absurd_bool}
 
 abbrev pub holds : (ℕ → Bool) → Clauses → Bool
 holds v db = list_all (λ e. clause_true v e.lits) db

@@ -1,6 +1,6 @@
 -- Written lines, and the words that are read from them.
-use Rattle.std.proofs.Common.{◌≡◌, ℕ, ℤ, pos, negsuc, zero, suc, ◌+◌, ◌-◌, ◌<◌, ◌≤◌, ◌^◌, Bool, true, false, not, ◌&&◌, List, [], ◌∷◌, ◌++◌, refl, ap, sym, ◌∙◌, subst, map, arith, get_or, length, take, nat_eq, nat_lt, nat_le, nat_abs}
-use Rattle.std.specs.List.{list_all, All, AllZip, filter, flat_map, slice_split, join_with_byte, suffix_len}
+use Rattle.std.proofs.Common.{◌≡◌, ℕ, ℤ, pos, negsuc, suc, ◌+◌, ◌-◌, ◌<◌, ◌^◌, Bool, true, false, not, ◌&&◌, List, [], ◌∷◌, ◌++◌, refl, ap, sym, ◌∙◌, subst, map, arith, get_or, length, take, nat_eq, nat_lt}
+use Rattle.std.specs.List.{list_all, All, AllZip, filter, slice_split, join_with_byte}
 use Rattle.std.specs.Fmt.{decimal, signed_decimal}
 use Rattle.std.specs.Str.{all_ascii_digits}
 use Rattle.std.specs.Char.{is_ascii_digit}
@@ -12,7 +12,7 @@ use Rattle.std.proofs.lemmas.List.Folds.{list_all-append}
 use Rattle.std.proofs.lemmas.List.Splits.{slice_split_none, slice_split_at, length-slice_split}
 use Rattle.std.proofs.lemmas.List.Sums.{AllPass-from_list_all, suffix_len_is}
 use Rattle.sat_form.specs.Literals.{Literal}
-use Rattle.lrat_lines.specs.Lines.{Line, IsLine, Text, words, words_in, words_of, without_end, without_last_empty, lines_of, is_blank, is_end, is_id, is_literal, is_hint, literal_number, is_line, is_writable, line_text, written_line, written}
+use Rattle.lrat_lines.specs.Lines.{Line, IsLine, Text, words, words_in, words_of, without_end, without_last_empty, lines_of, is_blank, is_end, is_id, is_literal, is_hint, literal_number, is_writable, line_text, written}
 use Rattle.lrat_lines.specs.Lines.Line.{Add, Delete, Skip}
 use Rattle.lrat_lines.specs.Sign.{with_sign}
 use Rattle.lrat_lines.specs.Spaced.{spaced}

@@ -1,5 +1,5 @@
 -- What the lines of a text come to, and lines that check.
-use Rattle.std.proofs.Common.{◌≡◌, ℕ, ◌+◌, ◌≤◌, ◌⊎◌, inl, inr, Bool, true, false, ◌||◌, cond, List, [], ◌∷◌, ◌++◌, refl, ap, sym, ◌∙◌, subst, length, nat_le, take}
+use Rattle.std.proofs.Common.{◌≡◌, ℕ, ◌+◌, ◌≤◌, inl, inr, Bool, true, false, ◌||◌, cond, List, [], ◌∷◌, ◌++◌, refl, ap, sym, ◌∙◌, subst, length, take}
 use Rattle.std.specs.Prelude.{Ok, Err}
 use Rattle.std.specs.declared.result.Result.{Result}
 use Rattle.std.specs.List.{AllZip}
@@ -8,9 +8,9 @@ use Rattle.std.proofs.lemmas.List.{append-nil}
 use Rattle.sat_form.specs.Literals.{Literal}
 use Rattle.lrat_lines.specs.Lines.{Line, IsLine, Text, lines_of}
 use Rattle.lrat_lines.specs.Judge.{Clauses, Cause, given, judge, is_last, checks_from, Checks}
-use Rattle.lrat_lines.specs.Replay.{Fault, Verdict, ComesTo, TextComesTo, lines_within, ended_lines}
-use Rattle.lrat_lines.specs.Replay.Fault.{Malformed, Because}
-use Rattle.lrat_lines.specs.Replay.Verdict.{Accepted, Refused, Undecided}
+use Rattle.lrat_lines.specs.Replay.{Verdict, ComesTo, TextComesTo, lines_within, ended_lines}
+use Rattle.lrat_lines.specs.Replay.Fault.{Because}
+use Rattle.lrat_lines.specs.Replay.Verdict.{Accepted, Refused}
 use Rattle.lrat_lines.specs.Laws.{BeginWithChecked}
 use Rattle.lrat_lines.proofs.Readings.{one_reading}
 

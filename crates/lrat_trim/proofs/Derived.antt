@@ -1,16 +1,16 @@
 -- The trimmed lines of a derived log check.
-use Rattle.std.proofs.Common.{◌≡◌, ◌≢◌, ℕ, suc, ◌+◌, ◌<◌, ◌≤◌, Bool, true, false, not, ◌&&◌, ◌||◌, cond, nat_eq, nat_le, nat_lt, List, [], ◌∷◌, ◌++◌, length, map, refl, ap, sym, ◌∙◌, subst, arith, length-append, pos, ◌⊎◌, inl, inr}
+use Rattle.std.proofs.Common.{◌≡◌, ◌≢◌, ℕ, suc, ◌+◌, ◌<◌, ◌≤◌, Bool, true, false, not, ◌&&◌, ◌||◌, cond, nat_eq, nat_lt, List, [], ◌∷◌, ◌++◌, length, map, refl, ap, sym, ◌∙◌, subst, arith, length-append, pos, ◌⊎◌, inl, inr}
 use Rattle.std.specs.Prelude.{Some, None, Ok, Err, is_some}
 use Rattle.std.specs.List.{list_any, find, position_or_len}
 use Rattle.std.specs.Option.{option_map}
 use Rattle.std.specs.declared.option.Option.{Option}
 use Rattle.std.specs.declared.result.Result.{Result}
-use Rattle.std.proofs.lemmas.Grind.{common_steps}
 use Rattle.std.proofs.lemmas.List.{append_assoc}
 use Rattle.std.proofs.lemmas.List.Folds.{list_any-append}
 use Rattle.sat_form.specs.Literals.{Literal, negate}
 use Rattle.sat_form.specs.Assignment.{clause_false, unit_literal}
 use Rattle.sat_form.specs.Log.{Logged}
+use Rattle.sat_form.proofs.Numbers.{eq_not, eq_is, lt_is, lt_not, is_le, isnt_le}
 use Rattle.sat_form.proofs.Sets.{both, neither, either_left, either_right, one_of, nat_is, nat_itself}
 use Rattle.lrat_lines.specs.Lines.{Line}
 use Rattle.lrat_lines.specs.Lines.Line.{Add}
@@ -20,27 +20,6 @@ use Rattle.lrat_lines.specs.Judge.Taken.{Conflict, Units, Stop}
 use Rattle.lrat_trim.specs.Derivation.{IsFinished, are_earlier}
 use Rattle.lrat_trim.specs.Derived.{AreNumbered, AreDerived}
 use Rattle.lrat_trim.specs.Trim.{Kept, keep, is_needed, new_id, renumbered, trim}
-
-eq_not : (m n : ℕ) → m ≢ n → nat_eq m n ≡ false
-eq_not m n h = grind (arith, common_steps)
-
-eq_is : (m n : ℕ) → m ≡ n → nat_eq m n ≡ true
-eq_is m n h = grind (arith, common_steps)
-
-lt_is : (m n : ℕ) → nat_lt m n ≡ true → m < n
-lt_is m n h = grind (arith, common_steps)
-
-is_lt : (m n : ℕ) → m < n → nat_lt m n ≡ true
-is_lt m n h = grind (arith, common_steps)
-
-lt_not : (m n : ℕ) → nat_lt m n ≡ false → n ≤ m
-lt_not m n h = grind (arith, common_steps)
-
-le_isnt : (m n : ℕ) → n < m → nat_le m n ≡ false
-le_isnt m n h = grind (arith, common_steps)
-
-is_le : (m n : ℕ) → m ≤ n → nat_le m n ≡ true
-is_le m n h = grind (arith, common_steps)
 
 no : {P : Type 0} {b : Bool} → b ≡ true → b ≡ false → P
 no t f = cc
@@ -176,7 +155,7 @@ module _ (m : ℕ) (all : List Logged) where
 
   name_is : (i : ℕ) (front : List Logged) (l : Logged) (later : List Logged) → m < i → all ≡ front ++ l ∷ later → AreBelow i front → l.id ≡ i → name i ≡ m + 1 + length front
   name_is i front l later above split below same =
-      ap (λ b. cond b i (m + 1 + place_of i all)) (le_isnt i m above)
+      ap (λ b. cond b i (m + 1 + place_of i all)) (isnt_le i m above)
       ∙ ap (λ n. m + 1 + n) (ap (place_of i) split ∙ place_behind i front l later below same)
 
   -- The line is judged without a refusal.

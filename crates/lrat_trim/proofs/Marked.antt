@@ -1,26 +1,15 @@
 -- Marking what the empty clause needs, one line back.
-use Rattle.std.proofs.Common.{◌≡◌, ◌≢◌, ℕ, ◌+◌, ◌-◌, ◌<◌, ◌≤◌, Bool, true, false, ◌&&◌, ◌||◌, cond, nat_eq, nat_le, nat_lt, get_or, List, [], ◌∷◌, ◌++◌, length, refl, ap, sym, ◌∙◌, arith, inl, inr}
+use Rattle.std.proofs.Common.{◌≡◌, ℕ, ◌+◌, ◌-◌, ◌<◌, ◌≤◌, Bool, true, false, ◌&&◌, ◌||◌, cond, nat_eq, nat_le, nat_lt, get_or, List, [], ◌∷◌, ◌++◌, length, refl, ap, sym, ◌∙◌, arith, inl, inr}
 use Rattle.std.specs.List.{list_any}
 use Rattle.std.proofs.lemmas.Grind.{common_steps}
 use Rattle.std.proofs.lemmas.List.{get_or_past}
 use Rattle.std.proofs.lemmas.List.Folds.{list_any-append}
 use Rattle.sat_form.specs.Log.{Logged}
+use Rattle.sat_form.proofs.Numbers.{eq_not, eq_is, lt_is, le_not}
 use Rattle.sat_form.proofs.Sets.{both, join, either_left, either_right, one_of, neither, nat_itself}
 use Rattle.lrat_trim.specs.Derivation.{are_earlier}
 use Rattle.lrat_trim.specs.Marks.{marked_from, are_marked, AreClosed, mark_behind}
 use Rattle.lrat_trim.specs.Trim.{Kept, keep, is_needed}
-
-eq_not : (m n : ℕ) → m ≢ n → nat_eq m n ≡ false
-eq_not m n h = grind (arith, common_steps)
-
-eq_is : (m n : ℕ) → m ≡ n → nat_eq m n ≡ true
-eq_is m n h = grind (arith, common_steps)
-
-lt_is : (m n : ℕ) → nat_lt m n ≡ true → m < n
-lt_is m n h = grind (arith, common_steps)
-
-le_not : (m n : ℕ) → nat_le m n ≡ false → n < m
-le_not m n h = grind (arith, common_steps)
 
 -- an earlier hint isn't the id of this line or a later one
 pub none_later : (id k : ℕ) (hints : List ℕ) → are_earlier id hints ≡ true → id ≤ k → list_any (nat_eq k) hints ≡ false

@@ -1,27 +1,15 @@
 -- The marks that one line puts.
 use Rattle.std.proofs.Common.{◌≡◌, ◌≢◌, ℕ, zero, suc, ◌+◌, ◌<◌, ◌≤◌, Bool, true, false, ◌&&◌, ◌||◌, nat_eq, nat_lt, get_or, set, take, drop, List, [], ◌∷◌, length, refl, ap, sym, ◌∙◌, arith, get_or-set_other}
 use Rattle.std.specs.List.{list_any}
-use Rattle.std.proofs.lemmas.Grind.{common_steps}
 use Rattle.std.proofs.lemmas.List.{take_more, drop_more}
 use Rattle.std.proofs.lemmas.List.Folds.{list_any-append}
 use Rattle.sat_form.specs.Literals.{Literal}
 use Rattle.sat_form.specs.Log.{Logged}
+use Rattle.sat_form.proofs.Numbers.{eq_not, eq_is, lt_is, is_lt}
 use Rattle.sat_form.proofs.Sets.{both, join, nat_is}
 use Rattle.lrat_trim.specs.declared.LogLine.{LogLine}
 use Rattle.lrat_trim.specs.Derivation.{is_earlier, are_earlier, hints_earlier, logged_from}
 use Rattle.lrat_trim.specs.Marks.{mark_behind}
-
-eq_not : (m n : ℕ) → m ≢ n → nat_eq m n ≡ false
-eq_not m n h = grind (arith, common_steps)
-
-eq_is : (m n : ℕ) → m ≡ n → nat_eq m n ≡ true
-eq_is m n h = grind (arith, common_steps)
-
-lt_is : (m n : ℕ) → nat_lt m n ≡ true → m < n
-lt_is m n h = grind (arith, common_steps)
-
-is_lt : (m n : ℕ) → m < n → nat_lt m n ≡ true
-is_lt m n h = grind (arith, common_steps)
 
 set_here : (marks : List Bool) (place : ℕ) → place < length marks → get_or (set marks place true) place false ≡ true
 set_here [] place h = absurd (omega arith)

@@ -4,6 +4,7 @@ use Rattle.std.specs.List.{list_all, position_or_len}
 use Rattle.std.proofs.lemmas.Grind.{common_steps}
 use Rattle.std.proofs.lemmas.List.{append_assoc}
 use Rattle.sat_form.specs.Log.{Logged}
+use Rattle.sat_form.proofs.Numbers.{eq_not, eq_is, lt_is, le_not, isnt_le}
 use Rattle.sat_form.proofs.Sets.{both, join}
 use Rattle.lrat_lines.specs.Lines.{Line, is_id}
 use Rattle.lrat_lines.specs.Lines.Line.{Add}
@@ -11,24 +12,6 @@ use Rattle.lrat_trim.specs.declared.LogLine.{LogLine}
 use Rattle.lrat_trim.specs.Derivation.{logged_from, are_earlier}
 use Rattle.lrat_trim.specs.Marks.{marked_from, marks_in, are_marked, AreClosed, moved_hints}
 use Rattle.lrat_trim.specs.Trim.{new_id, renumbered}
-
-eq_not : (m n : ℕ) → m ≢ n → nat_eq m n ≡ false
-eq_not m n h = grind (arith, common_steps)
-
-eq_is : (m n : ℕ) → m ≡ n → nat_eq m n ≡ true
-eq_is m n h = grind (arith, common_steps)
-
-le_is : (m n : ℕ) → m ≤ n → nat_le m n ≡ true
-le_is m n h = grind (arith, common_steps)
-
-le_isnt : (m n : ℕ) → n < m → nat_le m n ≡ false
-le_isnt m n h = grind (arith, common_steps)
-
-le_not : (m n : ℕ) → nat_le m n ≡ false → n < m
-le_not m n h = grind (arith, common_steps)
-
-lt_is : (m n : ℕ) → nat_lt m n ≡ true → m < n
-lt_is m n h = grind (arith, common_steps)
 
 abbrev place_of : ℕ → List Logged → ℕ
 place_of id ls = position_or_len (λ l. nat_eq l.id id) ls
@@ -94,7 +77,7 @@ pub record IsRenumbered (m : ℕ) (marks : List Bool) (kept : List Logged) (at :
   pub closed : AreClosed marks m at rest
 
 new_is : (m id place : ℕ) (kept : List Logged) → m < id → place_of id kept ≡ place → new_id m kept id ≡ m + 1 + place
-new_is m id place kept above is = ap (λ b. cond b id (m + 1 + place_of id kept)) (le_isnt id m above) ∙ ap (λ n. m + 1 + n) is
+new_is m id place kept above is = ap (λ b. cond b id (m + 1 + place_of id kept)) (isnt_le id m above) ∙ ap (λ n. m + 1 + n) is
 
 module _ (m : ℕ) (marks : List Bool) (all : List LogLine) (kept : List Logged) (kept_is : marked_from marks 0 (logged_from (m + 1) all) ≡ kept) where
   place_all : (j id : ℕ) → id ≡ m + 1 + j → j < length all → get_or marks j false ≡ true → place_of id kept ≡ marks_in marks 0 j

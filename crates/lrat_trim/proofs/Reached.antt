@@ -1,14 +1,14 @@
 -- The lines that are kept are those that the empty clause reaches.
-use Rattle.std.proofs.Common.{◌≡◌, ℕ, zero, suc, ◌+◌, ◌<◌, ◌≤◌, Bool, true, false, ◌||◌, cond, nat_eq, List, [], ◌∷◌, ◌++◌, length, map, refl, ap, sym, ◌∙◌, subst, arith, ◌⊎◌, inl, inr}
+use Rattle.std.proofs.Common.{◌≡◌, ℕ, zero, suc, ◌+◌, ◌≤◌, Bool, true, false, ◌||◌, cond, nat_eq, List, [], ◌∷◌, ◌++◌, length, map, refl, ap, sym, ◌∙◌, subst, arith, ◌⊎◌, inl, inr}
 use Rattle.std.specs.List.{IsAmong, filter, list_any}
 use Rattle.std.specs.Prelude.{IfOk, Ok, Err}
 use Rattle.std.specs.declared.result.Result.{Result}
 use Rattle.std.specs.declared.vec.Vec.{Vec}
 use Rattle.std.specs.declared.alloc.Global.{Global}
-use Rattle.std.proofs.lemmas.Grind.{common_steps}
 use Rattle.std.proofs.lemmas.List.Folds.{list_any-append}
 use Rattle.sat_form.specs.Literals.{Literal}
 use Rattle.sat_form.specs.Log.{Logged}
+use Rattle.sat_form.proofs.Numbers.{eq_is, eq_not_above, eq_not_below}
 use Rattle.sat_form.proofs.Sets.{both, either_left, either_right, one_of, neither, nat_is, nat_itself}
 use Rattle.lrat_lines.specs.declared.line.Line.{Line}
 use Rattle.lrat_lines.specs.Lines as lines
@@ -22,15 +22,6 @@ use Rattle.lrat_trim.proofs.Marked.{none_later}
 
 no : {P : Type 0} {b : Bool} → b ≡ true → b ≡ false → P
 no t f = cc
-
-eq_not : (m n : ℕ) → m < n → nat_eq m n ≡ false
-eq_not m n h = grind (arith, common_steps)
-
-eq_not_over : (m n : ℕ) → n < m → nat_eq m n ≡ false
-eq_not_over m n h = grind (arith, common_steps)
-
-eq_is : (m n : ℕ) → m ≡ n → nat_eq m n ≡ true
-eq_is m n h = grind (arith, common_steps)
 
 -- members of a list
 not_among : {X P : Type 0} (x : X) → IsAmong [] x → P
@@ -89,7 +80,7 @@ kept_among (l ∷ ls) k h = elim (is_needed (keep ls) l) as (λ b. IsAmong (kept
 
 nothing_of : (lits : List Literal) → nat_eq (length lits) 0 ≡ true → lits ≡ []
 nothing_of [] h = refl
-nothing_of (l ∷ lits) h = absurd (no h (eq_not_over (length (l ∷ lits)) 0 (omega arith)))
+nothing_of (l ∷ lits) h = absurd (no h (eq_not_above (length (l ∷ lits)) 0 (omega arith)))
 
 -- What is kept is reached.
 module _ (log : List Logged) where
@@ -138,7 +129,7 @@ same_kept low (l ∷ ls) k n h has =
         | inr later ↦
             let high = above (low + 1) ls k n.2 later in
             let first = n.0 in
-            let rest : has_id k.id (keep ls).lines ≡ true = sym (ap (λ b. b || has_id k.id (keep ls).lines) (eq_not l.id k.id (omega arith))) ∙ one in
+            let rest : has_id k.id (keep ls).lines ≡ true = sym (ap (λ b. b || has_id k.id (keep ls).lines) (eq_not_below l.id k.id (omega arith))) ∙ one in
             among_later l k (keep ls).lines (same_kept (low + 1) ls k n.2 later rest)
       ]
       | false ↦ λ one. elim (among_cases l k ls h) [
@@ -208,7 +199,7 @@ filtered test low (l ∷ ls) n same =
           let deep = filtered test (low + 1) ls n.2 (λ k h.
           let high = above (low + 1) ls k n.2 h in
           let first = n.0 in
-          same k (among_later l k ls h) ∙ ap (λ b. b || has_id k.id (keep ls).lines) (eq_not l.id k.id (omega arith))) in
+          same k (among_later l k ls h) ∙ ap (λ b. b || has_id k.id (keep ls).lines) (eq_not_below l.id k.id (omega arith))) in
           ap (λ x. l ∷ x) deep ∙ ap (λ b. cond b (l ∷ filter (λ x. test x.id) ls) (filter (λ x. test x.id) ls)) (sym on)
       | false ↦ λ _ same.
           let off : test l.id ≡ false = same l (among_first l l ls refl) ∙ gone in

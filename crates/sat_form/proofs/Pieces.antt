@@ -2,16 +2,10 @@
 use Rattle.std.proofs.Common.{◌≡◌, ℕ, zero, suc, ◌+◌, ◌-◌, ◌<◌, ◌≤◌, true, nat_eq, nat_le, List, [], ◌∷◌, ◌++◌, length, get_or, take, drop, refl, ap, ◌∙◌, arith, length-append, length-drop}
 use Rattle.std.specs.Prelude.{slice_get, slice_range, Some}
 use Rattle.std.proofs.lemmas.List.{drop_at, take-append-le, drop-append-le, take_all}
-use Rattle.std.proofs.lemmas.Grind.{common_steps}
 use Rattle.sat_form.specs.Literals.{Literal}
 use Rattle.sat_form.specs.Flat.{pieces, are_ends}
+use Rattle.sat_form.proofs.Numbers.{is_le, le_is}
 use Rattle.sat_form.proofs.Sets.{both, join, nat_is, nat_itself}
-
-le_is : (m n : ℕ) → nat_le m n ≡ true → m ≤ n
-le_is m n h = grind (arith, common_steps)
-
-is_le : (m n : ℕ) → m ≤ n → nat_le m n ≡ true
-is_le m n h = grind (arith, common_steps)
 
 pub pieces_count : (from : ℕ) (ends : List ℕ) (lits : List Literal) → length (pieces from ends lits) ≡ length ends
 pieces_count from [] lits = refl

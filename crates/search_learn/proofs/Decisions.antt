@@ -1,7 +1,7 @@
 -- No decision is resolved.
 use Rattle.std.proofs.Common.{◌≡◌, ◌≢◌, ℕ, ◌+◌, ◌≤◌, Bool, true, false, not, ◌&&◌, ◌||◌, cond, List, [], ◌∷◌, ◌++◌, refl, ap, sym, ◌∙◌, add-zero, ◌⊎◌, inl, inr, nat_eq, arith}
 use Rattle.std.specs.Prelude.{Some, None}
-use Rattle.std.specs.List.{list_any, find}
+use Rattle.std.specs.List.{find}
 use Rattle.std.specs.Option.{option_map_or, option_or}
 use Rattle.std.proofs.lemmas.List.Folds.{find-append}
 use Rattle.std.proofs.lemmas.List.Sums.{sum_by-append, sum_by-cons}
@@ -12,11 +12,9 @@ use Rattle.search_learn.specs.declared.Step.{Step}
 use Rattle.search_learn.specs.Analysis.{Resolved, is_resolved, resolve_if, resolve_back}
 use Rattle.search_learn.specs.Trail.{assigned, level, level_of}
 use Rattle.search_learn.specs.Rule.{Continues, EntryFollows}
+pub use Rattle.sat_form.proofs.Sets.{clash, some_member, member_any}
 use Rattle.sat_form.proofs.Sets.{absurd_bool, both, join, neither, one_of, either_left, either_right, same_is, same_itself, nat_is, nat_itself, member_all, member_without, without_itself, member_put_all, others_false, negate_twice}
 use Rattle.search_learn.proofs.Entries.{AreReasoned}
-
-pub clash : {P : Type 0} (b : Bool) → b ≡ true → b ≡ false → P
-clash b t f = cc
 
 abbrev pub is_decision : Step → ℕ
 is_decision e = cond (nat_eq e.reason 0) 1 0
@@ -86,23 +84,6 @@ module _ (lits_of : ℕ → List Literal) (vars : ℕ) (trail : List Step) where
 no_decision : (t : Bool) → ◌≡◌ {A = ℕ} (cond t 1 0) 0 → t ≡ false
 no_decision true h = absurd (omega arith)
 no_decision false h = refl
-
--- some member passes a test
-pub some_member : (p : Literal → Bool) (c : List Literal) → list_any p c ≡ true → (k : Literal) × (member c k ≡ true) × (p k ≡ true)
-some_member p [] h = clash false h refl
-some_member p (l ∷ c) h =
-    elim (one_of (p l) (list_any p c) h) [
-      | inl here ↦ (l, either_left (same_literal l l) (member c l) (same_itself l), here)
-      | inr later ↦ let deep = some_member p c later in (deep.0, either_right (same_literal deep.0 l) (member c deep.0) deep.1, deep.2)
-    ]
-
-pub member_any : (p : Literal → Bool) (c : List Literal) (k : Literal) → member c k ≡ true → p k ≡ true → list_any p c ≡ true
-member_any p [] k has h = has
-member_any p (l ∷ c) k has h =
-    elim (one_of (same_literal k l) (member c k) has) [
-      | inl same ↦ either_left (p l) (list_any p c) (ap p (sym (same_is k l same)) ∙ h)
-      | inr later ↦ either_right (p l) (list_any p c) (member_any p c k later h)
-    ]
 
 pub stays_member : (c : List Literal) (x k : Literal) → member c k ≡ true → (k ≡ x → false ≡ true) → member (without c x) k ≡ true
 stays_member [] x k has differ = has

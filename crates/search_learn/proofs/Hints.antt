@@ -17,7 +17,7 @@ use Rattle.search_learn.proofs.Decisions.{are_reasoned}
 use Rattle.search_learn.proofs.Keeps.{Kept, Rising}
 use Rattle.search_learn.proofs.Lessons.{found_here}
 
-rising_end : (low high : ℕ) (cs : List Clause) → Rising low high cs → low ≤ high
+pub rising_end : (low high : ℕ) (cs : List Clause) → Rising low high cs → low ≤ high
 rising_end low high [] h = h
 rising_end low high (c ∷ cs) h = let a = h.0 in let b = rising_end (c.id + 1) high cs h.1 in omega arith
 

@@ -6,7 +6,6 @@ use Rattle.std.specs.Option.{option_map_or, option_or}
 use Rattle.std.specs.declared.option.Option.{Option}
 use Rattle.std.proofs.lemmas.List.{append_assoc}
 use Rattle.std.proofs.lemmas.List.Folds.{find-append}
-use Rattle.std.proofs.lemmas.Grind.{common_steps}
 use Rattle.sat_form.specs.Literals.{Literal, negate, same_literal, member, without}
 use Rattle.sat_form.specs.Assignment.{is_false, unit_literal}
 use Rattle.search_learn.specs.declared.Step.{Step}
@@ -14,6 +13,7 @@ use Rattle.search_learn.specs.Trail.{assigned}
 use Rattle.search_learn.specs.Rule.{Continues, IsTrail}
 use Rattle.search_learn.specs.Analysis.{Resolved, is_resolved, resolve_if, resolve_back}
 use Rattle.search_learn.specs.Machine.{Clause, State, clause_at, start}
+use Rattle.sat_form.proofs.Numbers.{eq_not_below}
 use Rattle.sat_form.proofs.Sets.{one_of, nat_itself, same_is, member_all, member_without, member_put_all, others_false, member_of_unit, absurd_bool}
 use Rattle.search_learn.proofs.Entries.{AreReasoned}
 use Rattle.search_learn.proofs.Reach.{AreKnown, assigned_append}
@@ -35,9 +35,6 @@ pub within_push : (vars : ℕ) (cs : List Clause) (c : Clause) → AreWithin var
 within_push vars [] c h here = (here, tt)
 within_push vars (x ∷ cs) c h here = (h.0, within_push vars cs c h.1 here)
 
-differs : (m n : ℕ) → m < n → nat_eq m n ≡ false
-differs m n h = grind (arith, common_steps)
-
 -- Clauses with rising ids are found by their ids.
 known_from : (vars : ℕ) (before cs : List Clause) (low high : ℕ) → 0 < low → ((id : ℕ) → low ≤ id → find (λ x. nat_eq x.id id) before ≡ None) → Rising low high cs → AreWithin vars cs → AreKnown (before ++ cs) vars cs
 known_from vars before [] low high above none rising within = tt
@@ -53,7 +50,7 @@ known_from vars before (c ∷ cs) low high above none rising within = (
       (known_from vars (before ++ c ∷ []) cs (c.id + 1) high (omega arith) (λ id h.
       find-append (λ x. nat_eq x.id id) before (c ∷ [])
       ∙ ap (λ o. option_or o (cond (nat_eq c.id id) (Some c) None)) (none id (let first : low ≤ c.id = rising.0 in omega arith))
-      ∙ ap (λ b. cond b (Some c) None) (differs c.id id (omega arith))) rising.1 within.1),
+      ∙ ap (λ b. cond b (Some c) None) (eq_not_below c.id id (omega arith))) rising.1 within.1),
 )
   where
     low_id : (id low : ℕ) → id ≡ 0 → 0 < low → low ≤ id → ⊥

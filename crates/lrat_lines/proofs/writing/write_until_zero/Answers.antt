@@ -1,4 +1,4 @@
-use Rattle.std.proofs.Common.{◌≡◌, ◌++◌, ◌∷◌, [], map, take, length, arith}
+use Rattle.std.proofs.Common.{◌≡◌, ◌++◌, ◌∷◌, [], map, take}
 use Rattle.std.specs.Fmt.{decimal}
 use Rattle.lrat_lines.specs.Spaced.{spaced}
 use Rattle.lrat_lines.proofs.Appending.{kept_behind, ended, on_ok}
