@@ -100,6 +100,7 @@ meant_more seen more f g b part in' = record {
       let k = known_inside (meant more g b) (gate_literal s) now.known le in
       let e = sym (edge_gate (meant more g b) (gate_literal s) le) ∙ now.stands_for in
       (subst (λ t. IsTrue ((meant more g b).known t)) back k, ap (meant more g b).gate_at (sym back) ∙ gate_parts _ _ e);
+  once = λ _. meant_once more g b part;
   base = refl;
 }
 

@@ -132,11 +132,11 @@ outcome_based s t f g b b' c c' row (Err Deep) o = record { before = o.before; a
 outcome_based s t f g b b' c c' row (Err Full) o = record { before = o.before; at = o.at; after = o.after; cut = o.cut; cause = o.cause; has = o.has; fit = o.fit; trace = o.trace }
 outcome_based s t f g b b' c c' row (Err (Memory z)) o = tt
 
-pub rebased : (s t : List ℕ) (f g : Bool) (b b' c c' : List ℕ) (x y : Literal) (r : Result Literal GateStop) → c' ≡ c → Builds no_note Stands (meant s f b) (meant t g b') r (both (edge (meant s f b) x) (edge (meant s f b) y))
-    → Builds no_note Stands (meant s f c) (meant t g c') r (both (edge (meant s f c) x) (edge (meant s f c) y))
-unfolding edge
-rebased s t f g b b' c c' x y r same h = record { keeps = record { stays = h.keeps.stays; base = same }; outcome = outcome_based s t f g b b' c c' (both (edge (meant s f b) x) (edge (meant s f b) y)) r h.outcome }
-
 pub once_based : (t : List ℕ) (g : Bool) (b c : List ℕ) → OneEach (meant t g b) → OneEach (meant t g c)
 unfolding edge
 once_based t g b c one x y kx ky e = one x y (record { holds = kx.holds }) (record { holds = ky.holds }) e
+
+pub rebased : (s t : List ℕ) (f g : Bool) (b b' c c' : List ℕ) (x y : Literal) (r : Result Literal GateStop) → c' ≡ c → Builds no_note Stands (meant s f b) (meant t g b') r (both (edge (meant s f b) x) (edge (meant s f b) y))
+    → Builds no_note Stands (meant s f c) (meant t g c') r (both (edge (meant s f c) x) (edge (meant s f c) y))
+unfolding edge
+rebased s t f g b b' c c' x y r same h = record { keeps = record { stays = h.keeps.stays; once = λ one. once_based t g b' c' (h.keeps.once (once_based s f c b one)); base = same }; outcome = outcome_based s t f g b b' c c' (both (edge (meant s f b) x) (edge (meant s f b) y)) r h.outcome }
