@@ -1,16 +1,35 @@
 -- The values of sums, of differences and of negated numbers.
-use Rattle.std.proofs.Common.{◌≡◌, ◌<◌, ◌+◌, ◌-◌, ◌*◌, ◌%◌, ◌^◌, ℕ, suc, Bool, true, false, List, [], ◌∷◌, ◌++◌, map, replicate, refl, sym, ◌∙◌, ap, length, arith, zero-add, add-one}
+use Rattle.std.proofs.Common.{◌≡◌, ◌<◌, ◌+◌, ◌-◌, ◌*◌, ◌%◌, ◌^◌, ℕ, suc, Bool, true, false, ◌&&◌, ◌||◌, List, [], ◌∷◌, ◌++◌, map, replicate, refl, sym, ◌∙◌, ap, length, arith, zero-add, add-one}
 use Rattle.std.proofs.lemmas.Grind.{common_steps}
 use Rattle.std.proofs.lemmas.List.{map-append, length-append, length-map, length-replicate}
 use Rattle.std.specs.List.{zip}
 use Rattle.gate_shape.specs.Edge.{Edge, value, constant, invert}
-use Rattle.gate_shape.specs.Row.{◌>>=◌, along, full_adder}
-use Rattle.gate_shape.specs.Bits.{number, bit_number, written_number}
-use Rattle.gate_shape.proofs.Values.{full_adder-value}
-use Rattle.gate_shape.proofs.Numbers.{pow_more, number-push, rest_is, written-below, written-inverts, written-falses}
+use Rattle.gate_shape.specs.Row.{◌>>=◌, along, both, differ, full_adder}
+use Rattle.bv_value.specs.Bits.{bit_number}
+use Rattle.blast_logic.specs.Words.{written_number}
+use Rattle.gate_shape.proofs.Values.{xor, both-value, either-value, differ-value}
+use Rattle.bv_value.proofs.Bits.{pow_more}
+use Rattle.blast_logic.proofs.Numbers.{number-push, rest_is, written-below, written-inverts, written-falses}
 use Rattle.bv_value.specs.Operations as is
 use Rattle.blast_arith.specs.Sums.{adder, add_bit, difference, negative}
-use Rattle.blast_arith.specs.Words.{word}
+use Rattle.blast_logic.specs.Words.{word}
+
+-- twice the carry and the sum are the number of bits that are true
+pub full_adder-value : (bits : ℕ → ℕ → Bool) (a b c : Edge) → bit_number (value bits (full_adder a b c).answer.0) + 2 * bit_number (value bits (full_adder a b c).answer.1) ≡ bit_number (value bits a) + bit_number (value bits b) + bit_number (value bits c)
+unfolding full_adder ◌>>=◌
+full_adder-value bits a b c =
+    rw (differ-value bits (differ a b).answer c, either-value bits (both a b).answer (both (differ a b).answer c).answer, both-value bits a b, both-value bits (differ a b).answer c, differ-value bits a b)
+    (go (value bits a) (value bits b) (value bits c))
+  where
+    go : (x y z : Bool) → bit_number (xor (xor x y) z) + 2 * bit_number ((x && y) || (xor x y && z)) ≡ bit_number x + bit_number y + bit_number z
+    go true true true = refl
+    go true true false = refl
+    go true false true = refl
+    go true false false = refl
+    go false true true = refl
+    go false true false = refl
+    go false false true = refl
+    go false false false = refl
 
 one_bit : (A W T N P X Y k s x y z : ℕ) → A + T ≡ W + 2 * P * (X + Y + k) → W ≡ N + P * s → s + 2 * k ≡ x + y + z → A + T ≡ N + P * (x + 2 * X + (y + 2 * Y) + z)
 one_bit A W T N P X Y k s x y z a w e = let f : P * (s + 2 * k) ≡ P * (x + y + z) = ap (λ v. P * v) e in omega (arith, f)
@@ -19,7 +38,7 @@ pub written-push : (bits : ℕ → ℕ → Bool) (es : List Edge) (e : Edge) →
 written-push bits es e = rw (map-append (value bits) es (e ∷ [])) (number-push (map (value bits) es) (value bits e) ∙ rw length-map refl)
 
 adds_from : (bits : ℕ → ℕ → Bool) (xs ys : List Edge) (sums : List Edge) (c : Edge) → length xs ≡ length ys → written_number bits (along add_bit (sums, c) (zip xs ys)).answer.0 + 2 ^ (length sums + length xs) * bit_number (value bits (along add_bit (sums, c) (zip xs ys)).answer.1) ≡ written_number bits sums + 2 ^ length sums * (written_number bits xs + written_number bits ys + bit_number (value bits c))
-unfolding along ◌>>=◌ number
+unfolding along ◌>>=◌
 adds_from bits [] [] sums c l = grind (arith, common_steps)
 adds_from bits [] (y ∷ ys) sums c l = absurd (omega (arith, l))
 adds_from bits (x ∷ xs) [] sums c l = absurd (omega (arith, l))
@@ -35,7 +54,7 @@ adds_from bits (x ∷ xs) (y ∷ ys) sums c l =
     (one_bit _ _ _ _ (2 ^ length sums) _ _ _ _ _ _ _ ih2 (written-push bits sums f.0) (full_adder-value bits x y c))
 
 pub adder-value : (bits : ℕ → ℕ → Bool) (xs ys : List Edge) (c : Edge) → length xs ≡ length ys → written_number bits (adder xs ys c).answer.0 + 2 ^ length xs * bit_number (value bits (adder xs ys c).answer.1) ≡ written_number bits xs + written_number bits ys + bit_number (value bits c)
-unfolding adder number
+unfolding adder
 adder-value bits xs ys c l = let h = adds_from bits xs ys [] c l in rw (zero-add (length xs)) at h ∙ omega arith
 
 adds_length : (xs ys sums : List Edge) (c : Edge) → length xs ≡ length ys → length (along add_bit (sums, c) (zip xs ys)).answer.0 ≡ length sums + length xs

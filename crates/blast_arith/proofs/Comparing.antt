@@ -8,18 +8,20 @@ use Rattle.std.specs.List.{zip}
 use Rattle.gate_shape.specs.Literal.{Literal, opposite}
 use Rattle.gate_shape.specs.Edge.{Edge, value, constant, invert}
 use Rattle.gate_shape.specs.Row.{◌>>=◌, along, differ, both}
-use Rattle.gate_shape.specs.Bits.{number, bit_number, written_number}
+use Rattle.bv_value.specs.Bits.{number_of, bit_number}
+use Rattle.blast_logic.specs.Words.{written_number}
 use Rattle.gate_shape.specs.Builds.{Meaning, edge, edges, Known, AllKnown, StandAll}
 use Rattle.gate_shape.proofs.Building.{edge-opposite, known_opposite}
 use Rattle.gate_shape.proofs.Values.{value-invert, both-value, differ-value, and-true, xor}
-use Rattle.gate_shape.proofs.Numbers.{pow_more, written-below}
+use Rattle.bv_value.proofs.Bits.{pow_more}
+use Rattle.blast_logic.proofs.Numbers.{written-below}
 use Rattle.bv_value.specs.BitVector.{BitVector, modulus, signed}
 use Rattle.bv_value.specs.Operations as is
 use Rattle.bv_value.specs.Signs.{signed_less as less_by_signs}
 use Rattle.bv_value.proofs.Signs.{signed_low, signed_high}
 use Rattle.blast_arith.specs.Sums.{adder}
 use Rattle.blast_arith.specs.Comparisons.{equal, equal_bit, less, at_most, with_top, signed_less, signed_at_most}
-use Rattle.blast_arith.specs.Words.{word}
+use Rattle.blast_logic.specs.Words.{word}
 use Rattle.blast_arith.proofs.Adding.{adder-below, borrow-value}
 
 -- whether these bits are equal, one by one
@@ -42,8 +44,8 @@ equal_from bits (x ∷ xs) (y ∷ ys) e =
     ∙ (ap (λ z. z && alike (map (value bits) xs) (map (value bits) ys)) (both-value bits e (invert d) ∙ ap (λ z. value bits e && z) (value-invert bits d ∙ ap not (differ-value bits x y)))
     ∙ and_assoc (value bits e) (not (xor (value bits x) (value bits y))) (alike (map (value bits) xs) (map (value bits) ys)))
 
-alike-number : (xs ys : List Bool) → length xs ≡ length ys → alike xs ys ≡ true → number xs ≡ number ys
-unfolding alike number
+alike-number : (xs ys : List Bool) → length xs ≡ length ys → alike xs ys ≡ true → number_of xs ≡ number_of ys
+unfolding alike
 alike-number [] [] l h = refl
 alike-number [] (y ∷ ys) l h = absurd (omega (arith, l))
 alike-number (x ∷ xs) [] l h = absurd (omega (arith, l))
@@ -52,8 +54,8 @@ alike-number (true ∷ xs) (false ∷ ys) l h = cc
 alike-number (false ∷ xs) (true ∷ ys) l h = cc
 alike-number (false ∷ xs) (false ∷ ys) l h = ap (λ z. 0 + 2 * z) (alike-number xs ys (omega (arith, l)) h)
 
-number-alike : (xs ys : List Bool) → length xs ≡ length ys → number xs ≡ number ys → alike xs ys ≡ true
-unfolding alike number
+number-alike : (xs ys : List Bool) → length xs ≡ length ys → number_of xs ≡ number_of ys → alike xs ys ≡ true
+unfolding alike
 number-alike [] ys l h = refl
 number-alike (x ∷ xs) [] l h = refl
 number-alike (true ∷ xs) (true ∷ ys) l h = number-alike xs ys (omega (arith, l)) (omega (arith, h))
@@ -125,7 +127,7 @@ pub record Signed (h x flipped : ℕ) : Type 0 where
   pub turned : flipped ≡ low + h * bit_number (not sign)
 
 pub signed_parts : (n : ℕ) (bits : ℕ → ℕ → Bool) (xs : List Edge) → length xs ≡ suc n → Signed (2 ^ n) (written_number bits xs) (written_number bits (with_top invert xs))
-unfolding with_top number
+unfolding with_top
 signed_parts n bits [] l = absurd (omega (arith, l))
 signed_parts zero bits (x ∷ []) l = record { sign = value bits x; low = 0; small = omega arith; whole = omega arith; turned = rw (value-invert bits x) (omega arith) }
 signed_parts (suc n) bits (x ∷ []) l = absurd (omega (arith, l))

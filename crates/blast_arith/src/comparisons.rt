@@ -4,10 +4,10 @@ ghost use Rattle.std.specs.Prelude.{◌≡◌, ◌≤◌, ◌==◌, ℕ, Bool, l
 ghost use Rattle.bv_value.specs.Operations as is;
 ghost use Rattle.gate_shape.specs.Edge.{value as value_of};
 ghost use Rattle.gate_shape.specs.Literal.{opposite};
-ghost use Rattle.gate_shape.specs.Bits.{written_number};
+ghost use Rattle.blast_logic.specs.Words.{written_number};
 ghost use Rattle.gate_shape.specs.Builds.{AllKnown, edge, edges, Builds, Stands, IsMemory};
 ghost use Rattle.blast_arith.specs.Comparisons.{equal, less, at_most, with_top, signed_less, signed_at_most};
-ghost use Rattle.blast_arith.specs.Words.{word};
+ghost use Rattle.blast_logic.specs.Words.{word};
 
 use crate::sums::add;
 use gate_shape::{Builder, GateStop, Lit23, append, opposites, xor2};

@@ -3,10 +3,11 @@
 ghost use Rattle.std.specs.Prelude.{◌≡◌, ◌+◌, ◌*◌, ◌^◌, ℕ, Bool, false, length, IfOk};
 ghost use Rattle.bv_value.specs.Operations as is;
 ghost use Rattle.gate_shape.specs.Edge.{value as value_of};
-ghost use Rattle.gate_shape.specs.Bits.{bit_number, written_number};
+ghost use Rattle.bv_value.specs.Bits.{bit_number};
+ghost use Rattle.blast_logic.specs.Words.{written_number};
 ghost use Rattle.gate_shape.specs.Builds.{Known, AllKnown, edge, edges, Builds, StandAll, StandAllAndOne};
 ghost use Rattle.blast_arith.specs.Sums.{adder, difference, negative};
-ghost use Rattle.blast_arith.specs.Words.{word};
+ghost use Rattle.blast_logic.specs.Words.{word};
 
 use gate_shape::{Builder, GateStop, Lit23, append, falses, full_adder, opposites};
 use std::alloc::Global;

@@ -1,51 +1,66 @@
 //! Vectors of constants make no gate, so each call answers constants: worked values at width 4.
 
-ghost use Rattle.std.specs.Prelude.{◌≡◌, length, IfOk};
+ghost use Rattle.std.specs.Prelude.{◌≡◌, ◌≤◌, length};
 ghost use Rattle.gate_shape.specs.Builds.{Meaning, AllKnown};
 
 use crate::{add, eq, neg, sle, slt, sub, ule, ult};
-use gate_shape::{GateStop, ListBuilder, Lit23, append};
+use gate_shape::{GateStop, ListBuilder, Lit23};
 use std::alloc::Global;
 use std::test::Fail;
 
-/// The four lowest bits of a number, bit 0 first.
-fn bits(alloc: Global, number: u32) -> Result<Vec<Lit23>, GateStop>
-    ensures width { IfOk result (λ v. length v.items ≡ 4) }
-    ensures known { IfOk result (λ v. (m : Meaning) → AllKnown m v.items) }
-{
-    let mut out = Vec::new(alloc);
-    for place in 0..4u32 {
-        append(&mut out, Lit23::new(0, number >> place & 1 == 1))?;
+/// Whether these are the four bits of a number, bit 0 first.
+fn writes(bits: &[Lit23], number: u8) -> bool {
+    let mut same = bits.len() == 4;
+    let mut rest = number;
+    for bit in bits {
+        same = same && *bit == Lit23::new(0, rest % 2 == 1);
+        rest /= 2;
     }
-    Ok(out)
+    same
 }
 
 /// 5 + 12 + 1 is 18, so 2 and a carry; 5 - 12 is 9 modulo 16, and -5 is 11.
-#[test]
-fn sums(rt: HostRuntime) -> Result<(), Fail> {
-    let alloc = rt.alloc();
-    let mut list = ListBuilder::new(alloc, 1);
-    let (five, twelve) = (bits(alloc, 5)?, bits(alloc, 12)?);
-    let (sums, carry) = add(alloc, &mut list, &five, &twelve, Lit23::new(0, true))?;
-    assert_eq!(rt; sums, bits(alloc, 2)?);
-    assert_eq!(rt; carry, Lit23::new(0, true));
-    assert_eq!(rt; sub(alloc, &mut list, &five, &twelve)?, bits(alloc, 9)?);
-    assert_eq!(rt; neg(alloc, &mut list, &five)?, bits(alloc, 11)?);
-    Ok(())
+fn sums(alloc: Global, b: &mut ListBuilder, x: &[Lit23], y: &[Lit23]) -> Result<bool, GateStop>
+    requires lengths { length x.now ≡ length y.now }
+    requires left { (m : Meaning) → AllKnown m x.now }
+    requires right { (m : Meaning) → AllKnown m y.now }
+{
+    let yes = Lit23::new(0, true);
+    let (sums, carry) = add(alloc, b, x, y, yes)?;
+    let sum = writes(&sums, 2) && carry == yes;
+    let difference = writes(&sub(alloc, b, x, y)?, 9);
+    let negative = writes(&neg(alloc, b, x)?, 11);
+    Ok(sum && difference && negative)
 }
 
 /// Unsigned, 5 is below 12; signed, 12 is -4 and below 5.
+fn comparisons(
+    alloc: Global,
+    b: &mut ListBuilder,
+    x: &[Lit23],
+    y: &[Lit23],
+) -> Result<bool, GateStop>
+    requires positive { 1 ≤ length x.now }
+    requires lengths { length x.now ≡ length y.now }
+    requires left { (m : Meaning) → AllKnown m x.now }
+    requires right { (m : Meaning) → AllKnown m y.now }
+{
+    let (no, yes) = (Lit23::new(0, false), Lit23::new(0, true));
+    let equal = eq(b, x, y)? == no && eq(b, x, x)? == yes;
+    let unsigned = ult(alloc, b, x, y)? == yes && ule(alloc, b, y, x)? == no;
+    let signed = slt(alloc, b, x, y)? == no && sle(alloc, b, y, x)? == yes;
+    Ok(equal && unsigned && signed)
+}
+
 #[test]
-fn comparisons(rt: HostRuntime) -> Result<(), Fail> {
+fn five_and_twelve(rt: HostRuntime) -> Result<(), Fail> {
     let alloc = rt.alloc();
     let mut list = ListBuilder::new(alloc, 1);
-    let (five, twelve) = (bits(alloc, 5)?, bits(alloc, 12)?);
     let (no, yes) = (Lit23::new(0, false), Lit23::new(0, true));
-    assert_eq!(rt; eq(&mut list, &five, &twelve)?, no);
-    assert_eq!(rt; eq(&mut list, &five, &five)?, yes);
-    assert_eq!(rt; ult(alloc, &mut list, &five, &twelve)?, yes);
-    assert_eq!(rt; ule(alloc, &mut list, &twelve, &five)?, no);
-    assert_eq!(rt; slt(alloc, &mut list, &five, &twelve)?, no);
-    assert_eq!(rt; sle(alloc, &mut list, &twelve, &five)?, yes);
+    let five = [yes, no, yes, no];
+    let twelve = [no, no, yes, yes];
+    assert!(rt; sums(alloc, &mut list, &five, &twelve)?);
+    assert!(rt; comparisons(alloc, &mut list, &five, &twelve)?);
+    assert_eq!(rt; list.len(), 0);
     Ok(())
 }

@@ -9,9 +9,11 @@ use Rattle.gate_shape.specs.Word.{true_literal}
 use Rattle.gate_shape.specs.Builds.{Meaning, AllKnown, StandAll, edge, edges}
 use Rattle.gate_shape.specs.Edge.{Edge, value, constant, invert}
 use Rattle.gate_shape.specs.Row.{◌>>=◌, along}
-use Rattle.gate_shape.specs.Bits.{number, bit_number, written_number}
+use Rattle.bv_value.specs.Bits.{bit_number}
+use Rattle.blast_logic.specs.Words.{written_number}
 use Rattle.gate_shape.proofs.Building.{stand_take, stand_append, stand_not, stand_self, stand_push, stand_none, stands_true, item_one}
-use Rattle.gate_shape.proofs.Numbers.{pow_more, written-append, written-below, written-falses, written-take}
+use Rattle.bv_value.proofs.Bits.{pow_more}
+use Rattle.blast_logic.proofs.Numbers.{written-append, written-below, written-falses, written-take}
 use Rattle.blast_arith.specs.Sums.{adder}
 use Rattle.blast_arith.proofs.Adding.{adder-length, adder-below, borrow-value, written-push}
 use Rattle.blast_logic.proofs.Picking.{chosen-length, chosen-value}
@@ -32,7 +34,7 @@ unfolding divisor
 divisor-length ys = length-append ys (constant false ∷ [])
 
 divisor-value : (bits : ℕ → ℕ → Bool) (ys : List Edge) → written_number bits (divisor ys) ≡ written_number bits ys
-unfolding divisor number value
+unfolding divisor value
 divisor-value bits ys = written-append bits ys (constant false ∷ []) ∙ omega arith
 
 -- one step of a division, on numbers: `fits` is the carry, d the difference and t the remainder with a bit below it
@@ -58,7 +60,7 @@ step-length ns rest x l =
 
 step-value : (bits : ℕ → ℕ → Bool) (ys rest : List Edge) (x : Edge) → length ys ≡ length rest → written_number bits rest < written_number bits ys
     → (written_number bits (divide_step (negated_divisor ys) rest x).answer.1 + written_number bits ys * bit_number (value bits (divide_step (negated_divisor ys) rest x).answer.0) ≡ bit_number (value bits x) + 2 * written_number bits rest) × (written_number bits (divide_step (negated_divisor ys) rest x).answer.1 < written_number bits ys)
-unfolding divide_step ◌>>=◌ divisor number value
+unfolding divide_step ◌>>=◌ divisor value
 step-value bits ys rest x l less =
     let n : length (x ∷ rest) ≡ length (divisor ys) = (let k = divisor-length ys in omega (arith, k)) in
     let n2 : length (x ∷ rest) ≡ length (negated_divisor ys) = n ∙ sym (length-map (divisor ys) invert) in
@@ -93,7 +95,7 @@ reversed bits z zs = ap (written_number bits) (reverse-append (z ∷ []) zs) ∙
 
 steps-value : (bits : ℕ → ℕ → Bool) (ys zs qs rest : List Edge) (p : ℕ) → length ys ≡ length rest → Divided p (written_number bits ys) (written_number bits qs) (written_number bits rest)
     → Divided (p * 2 ^ length zs + written_number bits (reverse zs)) (written_number bits ys) (written_number bits (along (divide_bit (negated_divisor ys)) (qs, rest) zs).answer.0) (written_number bits (along (divide_bit (negated_divisor ys)) (qs, rest) zs).answer.1)
-unfolding along ◌>>=◌ number divisor
+unfolding along ◌>>=◌ divisor
 steps-value bits ys [] qs rest p l d = record { whole = d.whole ∙ grind (arith, common_steps); less = d.less }
 steps-value bits ys (z ∷ zs) qs rest p l d =
     let r : Edge × List Edge = (divide_step (negated_divisor ys) rest z).answer in
@@ -105,7 +107,7 @@ steps-value bits ys (z ∷ zs) qs rest p l d =
     record { whole = ih.whole ∙ (next_digit x p (2 ^ length zs) (written_number bits (reverse zs)) (2 ^ suc (length zs)) (pow_more (length zs)) ∙ ap (λ k. p * 2 ^ suc (length zs) + k) (sym (reversed bits z zs))); less = ih.less }
 
 pub division-value : (bits : ℕ → ℕ → Bool) (xs ys : List Edge) → length xs ≡ length ys → 0 < written_number bits ys → (written_number bits (division xs ys).answer.0 ≡ written_number bits xs / written_number bits ys) × (written_number bits (division xs ys).answer.1 ≡ written_number bits xs % written_number bits ys)
-unfolding division number
+unfolding division
 division-value bits xs ys l some =
     let start : Divided 0 (written_number bits ys) (written_number bits []) (written_number bits (replicate (length xs) (constant false))) = (let z = written-falses bits (length xs) in record { whole = omega (arith, z); less = omega (arith, z, some) }) in
     let d = steps-value bits ys (reverse xs) [] (replicate (length xs) (constant false)) 0 (sym l ∙ sym (length-replicate (length xs) (constant false))) start in

@@ -1,4 +1,3 @@
 pub mod Dividing
 pub mod Zeros
-pub mod Magnitudes
 pub mod Signing

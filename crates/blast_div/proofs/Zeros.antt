@@ -4,12 +4,13 @@ use Rattle.std.proofs.lemmas.Grind.{common_steps}
 use Rattle.std.proofs.lemmas.List.{length-append, length-map, length-replicate, length-reverse}
 use Rattle.gate_shape.specs.Edge.{Edge, value, constant, invert}
 use Rattle.gate_shape.specs.Row.{◌>>=◌, along, both}
-use Rattle.gate_shape.specs.Bits.{number, bit_number, written_number}
+use Rattle.bv_value.specs.Bits.{bit_number}
+use Rattle.blast_logic.specs.Words.{written_number}
 use Rattle.gate_shape.proofs.Values.{both-value, value-invert}
 use Rattle.gate_shape.proofs.Looping.{each_onto-answer}
-use Rattle.gate_shape.proofs.Numbers.{written-masked}
+use Rattle.blast_logic.proofs.Numbers.{written-masked}
 use Rattle.bv_value.specs.Operations as is
-use Rattle.blast_arith.specs.Words.{word}
+use Rattle.blast_logic.specs.Words.{word}
 use Rattle.blast_logic.proofs.Picking.{chosen-length, chosen-value}
 use Rattle.blast_div.specs.Division.{negated_divisor, divide_step, divide_bit, division, zero_bit, zero_test, remainder, quotient}
 use Rattle.blast_div.proofs.Dividing.{step-length, division-value}
@@ -20,7 +21,7 @@ zero_step true false n = grind (arith, common_steps)
 zero_step false v n = refl
 
 zeros_from : (bits : ℕ → ℕ → Bool) (ys : List Edge) (e : Edge) → value bits (along zero_bit e ys).answer ≡ value bits e && nat_eq (written_number bits ys) 0
-unfolding along ◌>>=◌ number
+unfolding along ◌>>=◌
 zeros_from bits [] e = grind (arith, common_steps)
 zeros_from bits (y ∷ ys) e = zeros_from bits ys (both e (invert y)).answer ∙ (ap (λ z. z && nat_eq (written_number bits ys) 0) (both-value bits e (invert y) ∙ ap (λ z. value bits e && z) (value-invert bits y)) ∙ zero_step (value bits e) (value bits y) (written_number bits ys))
 

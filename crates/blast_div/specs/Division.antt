@@ -2,10 +2,10 @@
 use Rattle.std.specs.Prelude.{true, false, List, [], ◌∷◌, ◌++◌, length, take, map, replicate, reverse}
 use Rattle.gate_shape.specs.Literal.{Literal}
 use Rattle.gate_shape.specs.Edge.{Edge, constant, invert}
-use Rattle.gate_shape.specs.Row.{Row, plain, ◌>>=◌, along, both, each}
+use Rattle.gate_shape.specs.Row.{Row, plain, ◌>>=◌, along, both}
 use Rattle.gate_shape.specs.Builds.{Meaning, StandAll, Stands}
 use Rattle.blast_arith.specs.Sums.{adder}
-use Rattle.blast_logic.specs.Chosen.{chosen}
+use Rattle.blast_logic.specs.Chosen.{chosen, masked}
 
 -- the divisor's negated bits, with a false bit on top of it
 abbrev pub negated_divisor : List Edge → List Edge
@@ -41,7 +41,7 @@ unfoldable pub quotient : List Edge → List Edge → Row (List Edge)
 quotient xs ys = do
   r ← division xs ys
   z ← zero_test ys
-  each (both (invert z)) r.0
+  masked (invert z) r.0
 
 -- x % y: the remainder, or x where the divisor is 0
 unfoldable pub remainder : List Edge → List Edge → Row (List Edge)

@@ -1,14 +1,11 @@
 -- The rows of signed division: unsigned division of the magnitudes, and the signs.
-use Rattle.std.specs.Prelude.{◌-◌, false, List, length, get_or}
+use Rattle.std.specs.Prelude.{false, List}
 use Rattle.gate_shape.specs.Edge.{Edge, constant, invert}
 use Rattle.gate_shape.specs.Row.{Row, ◌>>=◌, both, differ}
 use Rattle.blast_arith.specs.Sums.{adder, negative}
 use Rattle.blast_logic.specs.Chosen.{chosen}
+use Rattle.blast_logic.specs.Words.{top_bit}
 use Rattle.blast_div.specs.Division.{quotient, remainder, zero_test}
-
--- the sign: the top bit
-abbrev pub sign_bit : List Edge → Edge
-sign_bit xs = get_or xs (length xs - 1) (constant false)
 
 -- -x where c is true, else x
 unfoldable pub negated_where : Edge → List Edge → Row (List Edge)
@@ -18,7 +15,7 @@ negated_where c xs = do
 
 -- the magnitude: -x where the sign is set, else x
 unfoldable pub magnitude : List Edge → Row (List Edge)
-magnitude xs = negated_where (sign_bit xs) xs
+magnitude xs = negated_where (top_bit xs) xs
 
 -- the quotient rounded toward 0: that of the magnitudes, negated where the signs differ
 unfoldable pub signed_quotient : List Edge → List Edge → Row (List Edge)
@@ -26,7 +23,7 @@ signed_quotient xs ys = do
   ax ← magnitude xs
   ay ← magnitude ys
   q ← quotient ax ay
-  s ← differ (sign_bit xs) (sign_bit ys)
+  s ← differ (top_bit xs) (top_bit ys)
   negated_where s q
 
 -- the remainder of the magnitudes
@@ -40,16 +37,16 @@ magnitude_remainder xs ys = do
 unfoldable pub signed_remainder : List Edge → List Edge → Row (List Edge)
 signed_remainder xs ys = do
   u ← magnitude_remainder xs ys
-  negated_where (sign_bit xs) u
+  negated_where (top_bit xs) u
 
 -- the remainder with the sign of y: y is added to that with the sign of x, where the signs differ and
 -- it isn't 0
 unfoldable pub signed_modulus : List Edge → List Edge → Row (List Edge)
 signed_modulus xs ys = do
   u ← magnitude_remainder xs ys
-  v ← negated_where (sign_bit xs) u
+  v ← negated_where (top_bit xs) u
   e ← zero_test u
-  d ← differ (sign_bit xs) (sign_bit ys)
+  d ← differ (top_bit xs) (top_bit ys)
   k ← both d (invert e)
   s ← adder v ys (constant false)
   chosen k s.0 v

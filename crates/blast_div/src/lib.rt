@@ -7,6 +7,8 @@
 #![tactic(auto)]
 
 mod signed;
+#[cfg(test)]
+mod tests;
 mod unsigned;
 
 pub use signed::{sdiv, smod, srem};

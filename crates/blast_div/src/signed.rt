@@ -3,7 +3,7 @@
 ghost use Rattle.std.specs.Prelude.{◌≡◌, ◌≤◌, ℕ, Bool, length, IfOk};
 ghost use Rattle.bv_value.specs.Operations as is;
 ghost use Rattle.gate_shape.specs.Builds.{Known, AllKnown, StandAll, edge, edges, Builds};
-ghost use Rattle.blast_arith.specs.Words.{word};
+ghost use Rattle.blast_logic.specs.Words.{word};
 ghost use Rattle.blast_div.specs.Signed.{negated_where as row_negated, magnitude as row_of_magnitude, magnitude_remainder as row_of_remainder, signed_quotient, signed_remainder, signed_modulus};
 
 use crate::unsigned::{is_zero, udiv, umod};

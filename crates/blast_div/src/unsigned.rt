@@ -2,30 +2,17 @@
 
 ghost use Rattle.std.specs.Prelude.{◌≡◌, ◌<◌, ◌+◌, ◌∷◌, ◌++◌, [], ℕ, Bool, length, map, IfOk, MatchResult};
 ghost use Rattle.bv_value.specs.Operations as is;
-ghost use Rattle.gate_shape.specs.Bits.{written_number};
+ghost use Rattle.blast_logic.specs.Words.{written_number};
 ghost use Rattle.gate_shape.specs.Literal.{opposite};
 ghost use Rattle.gate_shape.specs.Word.{true_literal};
-ghost use Rattle.gate_shape.specs.Row.{each, both};
 ghost use Rattle.gate_shape.specs.Builds.{Known, AllKnown, Stands, StandAll, edge, edges, Builds, IsMemory};
-ghost use Rattle.blast_arith.specs.Words.{word};
+ghost use Rattle.blast_logic.specs.Words.{word};
 ghost use Rattle.blast_div.specs.Division.{divide_step as row_of_step, division, zero_test, remainder, quotient, StandAllTwo, StandOneAndAll};
 
 use blast_arith::add;
-use blast_logic::choose;
+use blast_logic::{choose, joined, masked};
 use gate_shape::{Builder, GateStop, Lit23, append, falses, opposites};
 use std::alloc::Global;
-
-/// The literals with one more below them.
-fn with_bit_below(alloc: Global, bit: Lit23, x: &[Lit23]) -> Result<Vec<Lit23>, GateStop>
-    ensures { MatchResult result (λ v. v.items ≡ bit ∷ x.now) IsMemory }
-{
-    let mut out = Vec::new(alloc);
-    append(&mut out, bit)?;
-    for lit in x {
-        append(&mut out, *lit)?;
-    }
-    Ok(out)
-}
 
 /// One more bit of a quotient, and the new remainder. `negated` is the divisor with a false bit on
 /// top, negated.
@@ -44,7 +31,7 @@ fn divide_step<B: Builder>(
     ensures lengths { IfOk result (λ r. length r.1.items ≡ length rest.now) }
 {
     let width = rest.len();
-    let grown = with_bit_below(alloc, bit, rest)?;
+    let grown = joined(alloc, &[bit], rest)?;
     let (sums, fits) = add(alloc, b, &grown, negated, Lit23::new(0, true))?;
     let left = choose(alloc, b, fits, &sums[..width], &grown[..width])?;
     Ok((fits, left))
@@ -100,25 +87,6 @@ pub(crate) fn is_zero<B: Builder>(b: &mut B, y: &[Lit23]) -> Result<Lit23, GateS
         zero = b.and(zero, y[i].not())?;
     }
     Ok(zero)
-}
-
-/// The literals, each with this bit.
-fn masked<B: Builder>(
-    alloc: Global,
-    b: &mut B,
-    bit: Lit23,
-    x: &[Lit23],
-) -> Result<Vec<Lit23>, GateStop>
-    requires bit { Known (B.meaning b.old) bit }
-    requires known { AllKnown (B.meaning b.old) x.now }
-    ensures { let m = B.meaning b.old in Builds B.noted (λ m r. StandAll m r.items) m (B.meaning b.new) result (each (both (edge m bit)) (edges m x.now)) }
-{
-    let mut out = Vec::new(alloc);
-    for i in 0..x.len() {
-        let both = b.and(bit, x[i])?;
-        append(&mut out, both)?;
-    }
-    Ok(out)
 }
 
 /// The unsigned quotient rounded down, or 0 where the divisor is 0: the division, whether the divisor

@@ -1,2 +1,5 @@
-pub mod Falsifying
+pub mod Sorting
+pub mod Laws
+pub mod Meaning
 pub mod Rows
+pub mod Falsifying

@@ -1,2 +1,3 @@
 pub mod Circuit
 pub mod Values
+pub mod Fitting

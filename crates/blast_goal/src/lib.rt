@@ -2,7 +2,7 @@
 //! valid exactly where its edge is never true, which is what a solver decides.
 #![tactic(auto)]
 
+mod circuits;
 mod goal;
-mod truth;
 
 pub use goal::edge;

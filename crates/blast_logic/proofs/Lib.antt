@@ -1,2 +1,5 @@
 pub mod Picking
 pub mod Meanings
+pub mod Wiring
+pub mod Numbers
+pub mod Vectoring

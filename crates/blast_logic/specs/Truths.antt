@@ -1,12 +1,6 @@
--- The rows of truths that are more than one row of the base, and the truths that they mean.
-use Rattle.std.specs.Prelude.{Bool, true, false, not}
+-- The rows of truths that are more than one row of the base.
 use Rattle.gate_shape.specs.Edge.{Edge, invert}
 use Rattle.gate_shape.specs.Row.{Row, plain, ◌>>=◌, both, differ}
-
--- exactly one of two truths (Lean's `Bool.xor`)
-abbrev pub exclusive : Bool → Bool → Bool
-exclusive true b = not b
-exclusive false b = b
 
 -- a = b: not the exclusive disjunction
 unfoldable pub equivalence : Edge → Edge → Row Edge

@@ -4,7 +4,8 @@ ghost use Rattle.std.specs.Prelude.{◌≡◌, ◌<◌, ℕ, Bool, false, not, �
 ghost use Rattle.gate_shape.specs.Edge.{value as value_of, constant, input, invert};
 ghost use Rattle.gate_shape.specs.Row.{plain, both, either, differ, choice};
 ghost use Rattle.gate_shape.specs.Builds.{Known, edge, Builds, Stands};
-ghost use Rattle.blast_logic.specs.Truths.{exclusive, equivalence, implication};
+ghost use Rattle.bv_value.specs.Bits.{differ as differ_bits};
+ghost use Rattle.blast_logic.specs.Truths.{equivalence, implication};
 
 use gate_shape::{Builder, GateStop, Lit23, input as input_bit, ite, or2, xor2};
 
@@ -65,7 +66,7 @@ pub fn truth_xor<B: Builder>(b: &mut B, x: Lit23, y: Lit23) -> Result<Lit23, Gat
     requires left { Known (B.meaning b.old) x }
     requires right { Known (B.meaning b.old) y }
     ensures built { let m = B.meaning b.old in Builds B.noted Stands m (B.meaning b.new) result (differ (edge m x) (edge m y)) }
-    ensures value { let m = B.meaning b.old in IfOk result (λ l. (bits : ℕ → ℕ → Bool) → value_of bits (edge (B.meaning b.new) l) ≡ exclusive (value_of bits (edge m x)) (value_of bits (edge m y))) }
+    ensures value { let m = B.meaning b.old in IfOk result (λ l. (bits : ℕ → ℕ → Bool) → value_of bits (edge (B.meaning b.new) l) ≡ differ_bits (value_of bits (edge m x)) (value_of bits (edge m y))) }
 {
     xor2(b, x, y)
 }
@@ -75,7 +76,7 @@ pub fn truth_eq<B: Builder>(b: &mut B, x: Lit23, y: Lit23) -> Result<Lit23, Gate
     requires left { Known (B.meaning b.old) x }
     requires right { Known (B.meaning b.old) y }
     ensures built { let m = B.meaning b.old in Builds B.noted Stands m (B.meaning b.new) result (equivalence (edge m x) (edge m y)) }
-    ensures value { let m = B.meaning b.old in IfOk result (λ l. (bits : ℕ → ℕ → Bool) → value_of bits (edge (B.meaning b.new) l) ≡ not (exclusive (value_of bits (edge m x)) (value_of bits (edge m y)))) }
+    ensures value { let m = B.meaning b.old in IfOk result (λ l. (bits : ℕ → ℕ → Bool) → value_of bits (edge (B.meaning b.new) l) ≡ not (differ_bits (value_of bits (edge m x)) (value_of bits (edge m y)))) }
 {
     let d = xor2(b, x, y)?;
     Ok(d.not())

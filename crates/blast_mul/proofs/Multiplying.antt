@@ -7,12 +7,14 @@ use Rattle.std.proofs.Math.Nat.{mul-add, mul_assoc}
 use Rattle.std.specs.List.{enumerate_from}
 use Rattle.gate_shape.specs.Edge.{Edge, value, constant}
 use Rattle.gate_shape.specs.Row.{◌>>=◌, along, both}
-use Rattle.gate_shape.specs.Bits.{number, bit_number, written_number}
+use Rattle.bv_value.specs.Bits.{bit_number}
+use Rattle.blast_logic.specs.Words.{written_number}
 use Rattle.gate_shape.proofs.Looping.{each_onto-answer}
-use Rattle.gate_shape.proofs.Numbers.{pow_more, rest_is, written-masked, written-append, written-below, written-falses, written-cut}
+use Rattle.bv_value.proofs.Bits.{pow_more}
+use Rattle.blast_logic.proofs.Numbers.{rest_is, written-masked, written-append, written-below, written-falses, written-cut}
 use Rattle.bv_value.specs.Operations as is
 use Rattle.blast_arith.specs.Sums.{adder}
-use Rattle.blast_arith.specs.Words.{word}
+use Rattle.blast_logic.specs.Words.{word}
 use Rattle.blast_arith.proofs.Adding.{adder-value}
 use Rattle.blast_arith.proofs.Adding.{adder-length}
 use Rattle.blast_mul.specs.Product.{partial_product, add_partial, product}
@@ -57,7 +59,7 @@ doubled : (i x : ℕ) → 2 ^ (i + 1) * x ≡ 2 * (2 ^ i * x)
 doubled i x = grind (arith, common_steps, pow_more i)
 
 rows-value : (bits : ℕ → ℕ → Bool) (xs ys sum : List Edge) (i : ℕ) → length sum ≡ length xs → i + length ys ≤ length xs → Without (2 ^ length xs) (written_number bits (along (add_partial xs) sum (enumerate_from i ys)).answer) (written_number bits sum + 2 ^ i * written_number bits xs * written_number bits ys)
-unfolding along add_partial ◌>>=◌ number value
+unfolding along add_partial ◌>>=◌ value
 rows-value bits xs [] sum i n l = (0, omega arith)
 rows-value bits xs (y ∷ ys) sum i n l =
     let row : List Edge = (partial_product xs (i, y)).answer in

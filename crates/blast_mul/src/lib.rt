@@ -8,7 +8,7 @@
 ghost use Rattle.std.specs.Prelude.{◌≡◌, ◌≤◌, ℕ, Bool, length, IfOk};
 ghost use Rattle.bv_value.specs.Operations as is;
 ghost use Rattle.gate_shape.specs.Builds.{Known, AllKnown, edge, edges, Builds, StandAll};
-ghost use Rattle.blast_arith.specs.Words.{word};
+ghost use Rattle.blast_logic.specs.Words.{word};
 ghost use Rattle.blast_mul.specs.Product.{partial_product as row_of_part, add_partial as row_of_sum, product};
 
 use blast_arith::add;

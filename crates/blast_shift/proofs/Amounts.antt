@@ -8,25 +8,26 @@ use Rattle.std.proofs.lemmas.List.{length-append, length-take, length-take-le, l
 use Rattle.std.proofs.Math.Seq.{drop-cons}
 use Rattle.std.proofs.Math.Nat.{mod-eq_of_lt, mod-lt, div-add-mod, add-mul-mod_self_right, mul-lt-mul_of_pos_right}
 use Rattle.bv_value.proofs.Powers.{pow-pos, below_later, shifted_out, shifted_up}
-use Rattle.gate_shape.specs.Bits.{number, bit_number}
-use Rattle.gate_shape.proofs.Numbers.{pow_more, number-append, number-below, number-not, number-zeros, number-take, number-drop, number-cut}
+use Rattle.bv_value.specs.Bits.{number_of, bit_number}
+use Rattle.bv_value.proofs.Bits.{pow_more}
+use Rattle.blast_logic.proofs.Numbers.{number-append, number-below, number-not, number-zeros, number-take, number-drop, number-cut}
 
 -- zeros above change nothing
-pub number-zeros_above : (bs : List Bool) (r : ℕ) → number (bs ++ replicate r false) ≡ number bs
+pub number-zeros_above : (bs : List Bool) (r : ℕ) → number_of (bs ++ replicate r false) ≡ number_of bs
 number-zeros_above bs r = rw (number-append bs (replicate r false), number-zeros r) (omega arith)
 
 -- what is left behind the first places
-pub number-left : (bs : List Bool) (n k : ℕ) → k ≡ min n (length bs) → number (drop k bs) ≡ number bs / 2 ^ n
+pub number-left : (bs : List Bool) (n k : ℕ) → k ≡ min n (length bs) → number_of (drop k bs) ≡ number_of bs / 2 ^ n
 number-left bs n k e = number-drop k bs (omega arith) ∙ elim (cases_lt n (length bs)) [
-  | inl below ↦ (let s : k ≡ n = omega arith in ap (λ z. number bs / 2 ^ z) s)
-  | inr over ↦ shifted_out (number bs) (length bs) k (number-below bs) (omega arith) ∙ sym (shifted_out (number bs) (length bs) n (number-below bs) over)
+  | inl below ↦ (let s : k ≡ n = omega arith in ap (λ z. number_of bs / 2 ^ z) s)
+  | inr over ↦ shifted_out (number_of bs) (length bs) k (number-below bs) (omega arith) ∙ sym (shifted_out (number_of bs) (length bs) n (number-below bs) over)
 ]
 
 -- the first bits, and zeros where there are fewer
-pub number-resized : (bs : List Bool) (width : ℕ) → number (take width bs ++ replicate (width - length bs) false) ≡ number bs % 2 ^ width
+pub number-resized : (bs : List Bool) (width : ℕ) → number_of (take width bs ++ replicate (width - length bs) false) ≡ number_of bs % 2 ^ width
 number-resized bs width = number-zeros_above (take width bs) (width - length bs) ∙ elim (cases_lt width (length bs)) [
   | inl below ↦ number-take width bs (omega arith)
-  | inr over ↦ ap number (take_all width bs over) ∙ sym (mod-eq_of_lt (below_later (number bs) (length bs) width over (number-below bs)))
+  | inr over ↦ ap number_of (take_all width bs over) ∙ sym (mod-eq_of_lt (below_later (number_of bs) (length bs) width over (number-below bs)))
 ]
 
 -- what a product with a power leaves modulo a greater one
@@ -41,7 +42,7 @@ moved x j k =
     spread x a b q r e = rw (sym e) (omega arith)
 
 -- zeros below, and the bits that are left
-pub number-shifted_left : (bs : List Bool) (n k : ℕ) → k ≡ min n (length bs) → number (replicate k false ++ take (length bs - k) bs) ≡ number bs * 2 ^ n % 2 ^ length bs
+pub number-shifted_left : (bs : List Bool) (n k : ℕ) → k ≡ min n (length bs) → number_of (replicate k false ++ take (length bs - k) bs) ≡ number_of bs * 2 ^ n % 2 ^ length bs
 number-shifted_left bs n k e =
     rw (number-append (replicate k false) (take (length bs - k) bs), number-zeros k, length-replicate k false, number-take (length bs - k) bs (omega arith))
     (elim (cases_lt n (length bs)) [
@@ -49,28 +50,28 @@ number-shifted_left bs n k e =
       | inr over ↦ beyond over
     ])
   where
-    within : n < length bs → 0 + 2 ^ k * (number bs % 2 ^ (length bs - k)) ≡ number bs * 2 ^ n % 2 ^ length bs
+    within : n < length bs → 0 + 2 ^ k * (number_of bs % 2 ^ (length bs - k)) ≡ number_of bs * 2 ^ n % 2 ^ length bs
     within below =
         let s : k ≡ n = omega arith in
         let whole : length bs - k + k ≡ length bs = omega arith in
-        let m = rw whole at (moved (number bs) (length bs - k) k) in
-        (let c : 0 + 2 ^ k * (number bs % 2 ^ (length bs - k)) ≡ number bs % 2 ^ (length bs - k) * 2 ^ k = omega arith in c) ∙ (sym m ∙ ap (λ z. number bs * 2 ^ z % 2 ^ length bs) s)
+        let m = rw whole at (moved (number_of bs) (length bs - k) k) in
+        (let c : 0 + 2 ^ k * (number_of bs % 2 ^ (length bs - k)) ≡ number_of bs % 2 ^ (length bs - k) * 2 ^ k = omega arith in c) ∙ (sym m ∙ ap (λ z. number_of bs * 2 ^ z % 2 ^ length bs) s)
 
-    beyond : length bs ≤ n → 0 + 2 ^ k * (number bs % 2 ^ (length bs - k)) ≡ number bs * 2 ^ n % 2 ^ length bs
+    beyond : length bs ≤ n → 0 + 2 ^ k * (number_of bs % 2 ^ (length bs - k)) ≡ number_of bs * 2 ^ n % 2 ^ length bs
     beyond over =
         let none : length bs - k ≡ 0 = omega arith in
-        let one : number bs % 1 ≡ 0 = omega arith in
-        rw (none, one) ((let z : 0 + 2 ^ k * 0 ≡ 0 = omega arith in z) ∙ sym (shifted_up (number bs) (length bs) n over))
+        let one : number_of bs % 1 ≡ 0 = omega arith in
+        rw (none, one) ((let z : 0 + 2 ^ k * 0 ≡ 0 = omega arith in z) ∙ sym (shifted_up (number_of bs) (length bs) n over))
 
 -- the bits round, by n modulo the width
-pub number-rotated_left : (bs : List Bool) (k : ℕ) → k ≤ length bs → number (drop (length bs - k) bs ++ take (length bs - k) bs) ≡ number bs * 2 ^ k % 2 ^ length bs + number bs / 2 ^ (length bs - k)
+pub number-rotated_left : (bs : List Bool) (k : ℕ) → k ≤ length bs → number_of (drop (length bs - k) bs ++ take (length bs - k) bs) ≡ number_of bs * 2 ^ k % 2 ^ length bs + number_of bs / 2 ^ (length bs - k)
 number-rotated_left bs k l =
     let whole : length bs - k + k ≡ length bs = omega arith in
     let room : length bs - (length bs - k) ≡ k = omega arith in
-    let m = rw whole at (moved (number bs) (length bs - k) k) in
+    let m = rw whole at (moved (number_of bs) (length bs - k) k) in
     rw (number-append (drop (length bs - k) bs) (take (length bs - k) bs), number-drop (length bs - k) bs (omega arith), length-drop (length bs - k) bs, room, number-take (length bs - k) bs (omega arith), m) (omega arith)
 
-pub number-rotated_right : (bs : List Bool) (k : ℕ) → k ≤ length bs → number (drop k bs ++ take k bs) ≡ number bs / 2 ^ k + number bs % 2 ^ k * 2 ^ (length bs - k)
+pub number-rotated_right : (bs : List Bool) (k : ℕ) → k ≤ length bs → number_of (drop k bs ++ take k bs) ≡ number_of bs / 2 ^ k + number_of bs % 2 ^ k * 2 ^ (length bs - k)
 number-rotated_right bs k l =
     rw (number-append (drop k bs) (take k bs), number-drop k bs l, length-drop k bs, number-take k bs l) (omega arith)
 
@@ -79,7 +80,7 @@ not-trues zero = refl
 not-trues (suc r) = ap (λ z. false ∷ z) (not-trues r)
 
 -- ones above: zeros above the bits turned over, turned over
-number-ones_above : (bs : List Bool) (r : ℕ) → number (bs ++ replicate r true) ≡ 2 ^ (length bs + r) - 1 - number (map not bs ++ replicate r false)
+number-ones_above : (bs : List Bool) (r : ℕ) → number_of (bs ++ replicate r true) ≡ 2 ^ (length bs + r) - 1 - number_of (map not bs ++ replicate r false)
 number-ones_above bs r =
     let h = rw (map-append not bs (replicate r true), not-trues r, length-append bs (replicate r true), length-replicate r true) at (number-not (bs ++ replicate r true)) in
     omega arith
@@ -88,23 +89,23 @@ take-not : (width : ℕ) (bs : List Bool) → map not (take width bs) ≡ take w
 take-not width bs = sym (take-map not width bs)
 
 -- the first bits, and ones where there are fewer
-pub number-resized_ones : (bs : List Bool) (width : ℕ) → number (take width bs ++ replicate (width - length bs) true) ≡ 2 ^ width - 1 - number (map not bs) % 2 ^ width
+pub number-resized_ones : (bs : List Bool) (width : ℕ) → number_of (take width bs ++ replicate (width - length bs) true) ≡ 2 ^ width - 1 - number_of (map not bs) % 2 ^ width
 number-resized_ones bs width =
     let whole : length (take width bs) + (width - length bs) ≡ width = rw length-take (omega arith) in
     let turned = rw (length-map bs not) at (number-resized (map not bs) width) in
     rw (number-ones_above (take width bs) (width - length bs), whole, take-not width bs, turned) refl
 
 -- the same of what is left behind the first places
-pub number-left_ones : (bs : List Bool) (n k width : ℕ) → k ≡ min n (length bs) → number (take width (drop k bs) ++ replicate (width - length (drop k bs)) true) ≡ 2 ^ width - 1 - number (map not bs) / 2 ^ n % 2 ^ width
+pub number-left_ones : (bs : List Bool) (n k width : ℕ) → k ≡ min n (length bs) → number_of (take width (drop k bs) ++ replicate (width - length (drop k bs)) true) ≡ 2 ^ width - 1 - number_of (map not bs) / 2 ^ n % 2 ^ width
 number-left_ones bs n k width e =
-    let turned : number (map not (drop k bs)) ≡ number (map not bs) / 2 ^ n = ap number (sym (drop-map not k bs)) ∙ number-left (map not bs) n k (e ∙ ap (min n) (sym (length-map bs not))) in
+    let turned : number_of (map not (drop k bs)) ≡ number_of (map not bs) / 2 ^ n = ap number_of (sym (drop-map not k bs)) ∙ number-left (map not bs) n k (e ∙ ap (min n) (sym (length-map bs not))) in
     rw (number-resized_ones (drop k bs) width, turned) refl
 
-pub number-left_zeros : (bs : List Bool) (n k width : ℕ) → k ≡ min n (length bs) → number (take width (drop k bs) ++ replicate (width - length (drop k bs)) false) ≡ number bs / 2 ^ n % 2 ^ width
+pub number-left_zeros : (bs : List Bool) (n k width : ℕ) → k ≡ min n (length bs) → number_of (take width (drop k bs) ++ replicate (width - length (drop k bs)) false) ≡ number_of bs / 2 ^ n % 2 ^ width
 number-left_zeros bs n k width e = rw (number-resized (drop k bs) width, number-left bs n k e) refl
 
 -- the bits turned over
-pub number-turned : (bs : List Bool) → number (map not bs) ≡ 2 ^ length bs - 1 - number bs
+pub number-turned : (bs : List Bool) → number_of (map not bs) ≡ 2 ^ length bs - 1 - number_of bs
 number-turned bs = let h = number-not bs in omega arith
 
 lowest : (b : Bool) (r : ℕ) → ((bit_number b + 2 * r) % 2 == 1) ≡ b
@@ -112,29 +113,27 @@ lowest true r = let e : (1 + 2 * r) % 2 ≡ 1 = omega arith in rw e refl
 lowest false r = let e : (0 + 2 * r) % 2 ≡ 0 = omega arith in rw e refl
 
 -- a bit, read off the number
-pub bit-is : (bs : List Bool) (i : ℕ) → get_or bs i false ≡ (number bs / 2 ^ i % 2 == 1)
-unfolding number
+pub bit-is : (bs : List Bool) (i : ℕ) → get_or bs i false ≡ (number_of bs / 2 ^ i % 2 == 1)
 bit-is bs i = elim (cases_lt i (length bs)) [
   | inl below ↦ within below
-  | inr over ↦ get_or_past bs i false over ∙ sym (ap (λ z. z % 2 == 1) (shifted_out (number bs) (length bs) i (number-below bs) over))
+  | inr over ↦ get_or_past bs i false over ∙ sym (ap (λ z. z % 2 == 1) (shifted_out (number_of bs) (length bs) i (number-below bs) over))
 ]
   where
-    within : i < length bs → get_or bs i false ≡ (number bs / 2 ^ i % 2 == 1)
-    within below = sym (ap (λ z. z % 2 == 1) (sym (number-drop i bs (omega arith)) ∙ ap number (drop-cons bs i false below)) ∙ lowest (get_or bs i false) (number (drop (suc i) bs)))
+    within : i < length bs → get_or bs i false ≡ (number_of bs / 2 ^ i % 2 == 1)
+    within below = sym (ap (λ z. z % 2 == 1) (sym (number-drop i bs (omega arith)) ∙ ap number_of (drop-cons bs i false below)) ∙ lowest (get_or bs i false) (number_of (drop (suc i) bs)))
 
 top_test : (b : Bool) (l p : ℕ) → l < p → nat_le (2 * p / 2) (l + p * (bit_number b + 2 * 0)) ≡ b
 top_test true l p h = grind (arith, common_steps)
 top_test false l p h = grind (arith, common_steps)
 
 -- the top bit says whether the number is in the upper half
-pub top-is : (bs : List Bool) → 1 ≤ length bs → nat_le (2 ^ length bs / 2) (number bs) ≡ get_or bs (length bs - 1) false
-unfolding number
+pub top-is : (bs : List Bool) → 1 ≤ length bs → nat_le (2 ^ length bs / 2) (number_of bs) ≡ get_or bs (length bs - 1) false
 top-is bs one = go (length bs - 1) (omega arith)
   where
-    go : (u : ℕ) → length bs ≡ suc u → nat_le (2 ^ length bs / 2) (number bs) ≡ get_or bs u false
+    go : (u : ℕ) → length bs ≡ suc u → nat_le (2 ^ length bs / 2) (number_of bs) ≡ get_or bs u false
     go u e =
         let inside : u < length bs = omega arith in
         let none : drop (suc u) bs ≡ [] = drop_all (suc u) bs (omega arith) in
-        let cut : number bs ≡ number (take u bs) + 2 ^ u * (bit_number (get_or bs u false) + 2 * 0) = number-cut u bs (omega arith) ∙ ap (λ z. number (take u bs) + 2 ^ u * number z) (drop-cons bs u false inside ∙ ap (λ z. get_or bs u false ∷ z) none) in
-        let small : number (take u bs) < 2 ^ u = rw (length-take-le u bs (omega arith)) at (number-below (take u bs)) in
-        rw (cut, e, pow_more u) (top_test (get_or bs u false) (number (take u bs)) (2 ^ u) small)
+        let cut : number_of bs ≡ number_of (take u bs) + 2 ^ u * (bit_number (get_or bs u false) + 2 * 0) = number-cut u bs (omega arith) ∙ ap (λ z. number_of (take u bs) + 2 ^ u * number_of z) (drop-cons bs u false inside ∙ ap (λ z. get_or bs u false ∷ z) none) in
+        let small : number_of (take u bs) < 2 ^ u = rw (length-take-le u bs (omega arith)) at (number-below (take u bs)) in
+        rw (cut, e, pow_more u) (top_test (get_or bs u false) (number_of (take u bs)) (2 ^ u) small)

@@ -9,7 +9,8 @@ use Rattle.std.proofs.lemmas.List.FromFn.{fill_by_all}
 use Rattle.std.proofs.Math.Nat.{mod-eq_of_lt, mod-lt, div-add-mod, add-mul-mod_self_right, mul-add-mod_self_right}
 use Rattle.gate_shape.specs.Edge.{Edge, constant}
 use Rattle.bv_value.specs.BitVector.{residue}
-use Rattle.blast_shift.specs.Wires.{bit_at, top_bit, bits_by, shifted_left, shifted_right, shifted_right_signed, rotated_left, rotated_right, extracted, with_width, sign_extended}
+use Rattle.blast_logic.specs.Words.{bit_at, top_bit}
+use Rattle.blast_shift.specs.Wires.{bits_by, shifted_left, shifted_right, shifted_right_signed, rotated_left, rotated_right, extracted, with_width, sign_extended}
 
 -- two lists one behind the other, bit by bit
 joined-is : (low_part high_part : List Edge) (count n : ℕ) (f : ℕ → Edge) → length low_part ≡ n → n + length high_part ≡ count → ((j : ℕ) → j < n → bit_at low_part j ≡ f j) → ((j : ℕ) → n ≤ j → j < count → bit_at high_part (j - n) ≡ f j) → low_part ++ high_part ≡ bits_by count f

@@ -1,4 +1,3 @@
-pub mod Wiring
 pub mod Cuts
 pub mod Standing
 pub mod Amounts

@@ -8,8 +8,9 @@ use Rattle.std.proofs.lemmas.List.FromFn.{fill_by_all, get_or-map-range_with_len
 use Rattle.gate_shape.specs.Edge.{Edge, constant}
 use Rattle.bv_value.specs.BitVector.{BitVector}
 use Rattle.bv_value.specs.Operations as is
-use Rattle.blast_arith.specs.Words.{word}
-use Rattle.blast_shift.specs.Wires.{bit_at, top_bit, shifted_left, shifted_right, shifted_right_signed}
+use Rattle.blast_logic.specs.Words.{word}
+use Rattle.blast_logic.specs.Words.{bit_at, top_bit}
+use Rattle.blast_shift.specs.Wires.{shifted_left, shifted_right, shifted_right_signed}
 use Rattle.blast_shift.proofs.Values.{shifted_left-length, shifted_right-length, shifted_right_signed-length, shifted_left-value, shifted_right-value, shifted_right_signed-value}
 
 -- a move, the operator that it means where the width fits it, and what comes in

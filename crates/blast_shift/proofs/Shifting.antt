@@ -1,20 +1,22 @@
 -- What shifts by bit vectors write.
 use Rattle.std.proofs.Common.{◌≡◌, ◌≤◌, ◌+◌, ◌*◌, ◌^◌, ℕ, suc, Bool, true, false, not, ◌||◌, List, [], ◌∷◌, map, replicate, refl, sym, ◌∙◌, ap, subst, length, nat_lt, if◌then◌else◌, arith}
 use Rattle.std.proofs.lemmas.Grind.{common_steps}
-use Rattle.std.proofs.lemmas.List.{length-map, length-replicate}
+use Rattle.std.proofs.lemmas.List.{length-replicate}
 use Rattle.std.specs.List.{enumerate_from}
 use Rattle.gate_shape.specs.Edge.{Edge, constant, invert, value}
-use Rattle.gate_shape.specs.Row.{plain, ◌>>=◌, along, each, both, either}
-use Rattle.gate_shape.specs.Bits.{number, bit_number, written_number}
-use Rattle.gate_shape.proofs.Looping.{each_onto-answer}
-use Rattle.gate_shape.proofs.Numbers.{pow_more, written-masked, written-falses}
+use Rattle.gate_shape.specs.Row.{plain, ◌>>=◌, along, either}
+use Rattle.bv_value.specs.Bits.{number_of, bit_number}
+use Rattle.blast_logic.specs.Words.{written_number}
+use Rattle.bv_value.proofs.Bits.{pow_more}
+use Rattle.blast_logic.proofs.Numbers.{written-falses}
 use Rattle.gate_shape.proofs.Values.{either-value, value-invert}
 use Rattle.bv_value.specs.BitVector.{BitVector}
 use Rattle.bv_value.specs.Operations as is
-use Rattle.blast_logic.specs.Chosen.{chosen}
-use Rattle.blast_logic.proofs.Picking.{chosen-value, chosen-length}
-use Rattle.blast_arith.specs.Words.{word}
-use Rattle.blast_shift.specs.Wires.{top_bit, shifted_right_signed}
+use Rattle.blast_logic.specs.Chosen.{chosen, masked}
+use Rattle.blast_logic.proofs.Picking.{chosen-word, chosen-length, masked-value, masked-length}
+use Rattle.blast_logic.specs.Words.{word}
+use Rattle.blast_logic.specs.Words.{top_bit}
+use Rattle.blast_shift.specs.Wires.{shifted_right_signed}
 use Rattle.blast_shift.specs.Stages.{stage, stages, or_overflow, overflow, variable_shift, variable_shift_signed}
 use Rattle.blast_shift.proofs.Moves.{IsMove, is_move_down_signed}
 
@@ -41,15 +43,15 @@ twice : (k : ℕ) → 2 ^ (k + 1) ≡ 2 * 2 ^ k
 twice k = (let e : k + 1 ≡ suc k = omega arith in ap (λ z. 2 ^ z) e) ∙ pow_more k
 
 -- the whole amount where none of them is true
-within-whole : (w k : ℕ) (bs : List Bool) → overflows w k bs ≡ false → within w k bs ≡ 2 ^ k * number bs
-unfolding within overflows number
+within-whole : (w k : ℕ) (bs : List Bool) → overflows w k bs ≡ false → within w k bs ≡ 2 ^ k * number_of bs
+unfolding within overflows
 within-whole w k [] h = omega arith
 within-whole w k (b ∷ bs) h = go (within-whole w (k + 1) bs) (nat_lt (2 ^ k) w) b h
   where
-    go : (overflows w (k + 1) bs ≡ false → within w (k + 1) bs ≡ 2 ^ (k + 1) * number bs) → (t c : Bool) → (if t then false else c) || overflows w (k + 1) bs ≡ false → (if t then bit_number c * 2 ^ k else 0) + within w (k + 1) bs ≡ 2 ^ k * (bit_number c + 2 * number bs)
-    go rest true c h = rw (rest h) (sums (bit_number c) (2 ^ k) (2 ^ (k + 1)) (number bs) (twice k))
+    go : (overflows w (k + 1) bs ≡ false → within w (k + 1) bs ≡ 2 ^ (k + 1) * number_of bs) → (t c : Bool) → (if t then false else c) || overflows w (k + 1) bs ≡ false → (if t then bit_number c * 2 ^ k else 0) + within w (k + 1) bs ≡ 2 ^ k * (bit_number c + 2 * number_of bs)
+    go rest true c h = rw (rest h) (sums (bit_number c) (2 ^ k) (2 ^ (k + 1)) (number_of bs) (twice k))
     go rest false true h = absurd (cc)
-    go rest false false h = rw (rest h) ((let e : 0 + 2 ^ (k + 1) * number bs ≡ 0 * 2 ^ k + 2 ^ (k + 1) * number bs = omega arith in e) ∙ sums 0 (2 ^ k) (2 ^ (k + 1)) (number bs) (twice k))
+    go rest false false h = rw (rest h) ((let e : 0 + 2 ^ (k + 1) * number_of bs ≡ 0 * 2 ^ k + 2 ^ (k + 1) * number_of bs = omega arith in e) ∙ sums 0 (2 ^ k) (2 ^ (k + 1)) (number_of bs) (twice k))
 
 more : (w k c n : ℕ) → w ≤ 2 ^ (k + 1) * n → w ≤ 2 ^ k * (c + 2 * n)
 more w k c n l = let e = sums c (2 ^ k) (2 ^ (k + 1)) n (twice k) in omega arith
@@ -61,23 +63,15 @@ not_less : (p w : ℕ) → nat_lt p w ≡ false → w ≤ p
 not_less p w e = grind (arith, common_steps)
 
 -- an amount that has one of them true is at least the width
-overflows-over : (w k : ℕ) (bs : List Bool) → overflows w k bs ≡ true → w ≤ 2 ^ k * number bs
-unfolding overflows number
+overflows-over : (w k : ℕ) (bs : List Bool) → overflows w k bs ≡ true → w ≤ 2 ^ k * number_of bs
+unfolding overflows
 overflows-over w k [] h = absurd (cc)
 overflows-over w k (b ∷ bs) h = go (overflows-over w (k + 1) bs) (nat_lt (2 ^ k) w) refl b h
   where
-    go : (overflows w (k + 1) bs ≡ true → w ≤ 2 ^ (k + 1) * number bs) → (t : Bool) → nat_lt (2 ^ k) w ≡ t → (c : Bool) → (if t then false else c) || overflows w (k + 1) bs ≡ true → w ≤ 2 ^ k * (bit_number c + 2 * number bs)
-    go rest true e c h = more w k (bit_number c) (number bs) (rest h)
-    go rest false e true h = last w (2 ^ k) (number bs) (not_less (2 ^ k) w e)
-    go rest false e false h = more w k 0 (number bs) (rest h)
-
--- a choice between two lists of one length
-choice-word : (bits : ℕ → ℕ → Bool) (c : Edge) (xs ys : List Edge) → length xs ≡ length ys → word bits (chosen c xs ys).answer ≡ (if value bits c then word bits xs else word bits ys)
-choice-word bits c xs ys l = rw (chosen-length c xs ys l, chosen-value bits c xs ys l) (go (value bits c))
-  where
-    go : (b : Bool) → record { width = length xs; number = if b then written_number bits xs else written_number bits ys } ≡ (if b then word bits xs else word bits ys)
-    go true = refl
-    go false = rw l refl
+    go : (overflows w (k + 1) bs ≡ true → w ≤ 2 ^ (k + 1) * number_of bs) → (t : Bool) → nat_lt (2 ^ k) w ≡ t → (c : Bool) → (if t then false else c) || overflows w (k + 1) bs ≡ true → w ≤ 2 ^ k * (bit_number c + 2 * number_of bs)
+    go rest true e c h = more w k (bit_number c) (number_of bs) (rest h)
+    go rest false e true h = last w (2 ^ k) (number_of bs) (not_less (2 ^ k) w e)
+    go rest false e false h = more w k 0 (number_of bs) (rest h)
 
 or-false : (a : Bool) → a ≡ a || false
 or-false true = refl
@@ -136,7 +130,7 @@ module _ {move : ℕ → List Edge → List Edge} {op : BitVector → ℕ → Bi
       moved_or false = sym (op-none bits xs f) ∙ (let e : 0 ≡ 0 * 2 ^ k = omega arith in ap (op (word bits xs)) e)
 
       go : (t : Bool) → word bits (if t then chosen y (move (2 ^ k) xs) xs else plain xs).answer ≡ op (word bits xs) (if t then bit_number (value bits y) * 2 ^ k else 0)
-      go true = choice-word bits y (move (2 ^ k) xs) xs (law.keeps_length (2 ^ k) xs) ∙ moved_or (value bits y)
+      go true = chosen-word bits y (move (2 ^ k) xs) xs (law.keeps_length (2 ^ k) xs) ∙ moved_or (value bits y)
       go false = sym (op-none bits xs f)
 
   stages_from-length : (xs ys : List Edge) (k : ℕ) → length (along (stage move) xs (enumerate_from k ys)).answer ≡ length xs
@@ -162,17 +156,15 @@ module _ {move : ℕ → List Edge → List Edge} {op : BitVector → ℕ → Bi
   -- the stages where no bit of the amount is too great, and what is left where one is
   stages-word : (bits : ℕ → ℕ → Bool) (xs ys : List Edge) → Fits (length xs) → overflows (length xs) 0 (map (value bits) ys) ≡ false → word bits (stages move xs ys).answer ≡ op (word bits xs) (written_number bits ys)
   unfolding stages
-  stages-word bits xs ys f h = stages_from-word bits xs ys 0 f ∙ ap (op (word bits xs)) (within-whole (length xs) 0 (map (value bits) ys) h ∙ one_times (number (map (value bits) ys)))
+  stages-word bits xs ys f h = stages_from-word bits xs ys 0 f ∙ ap (op (word bits xs)) (within-whole (length xs) 0 (map (value bits) ys) h ∙ one_times (number_of (map (value bits) ys)))
 
   out-word : (bits : ℕ → ℕ → Bool) (xs ys : List Edge) → Fits (length xs) → overflows (length xs) 0 (map (value bits) ys) ≡ true → word bits (replicate (length xs) (fill xs)) ≡ op (word bits xs) (written_number bits ys)
   out-word bits xs ys f h =
       let over = rw one_times at (overflows-over (length xs) 0 (map (value bits) ys) h) in
       ap (word bits) (sym (law.out (written_number bits ys) xs over)) ∙ law.means bits (written_number bits ys) xs f
 
-masked-word : (bits : ℕ → ℕ → Bool) (o : Edge) (xs : List Edge) → word bits (each (both (invert o)) xs).answer ≡ (if value bits o then word bits (replicate (length xs) (constant false)) else word bits xs)
-masked-word bits o xs =
-    let whole : (each (both (invert o)) xs).answer ≡ map (λ x. (both (invert o) x).answer) xs = each_onto-answer [] (both (invert o)) xs in
-    ap (word bits) whole ∙ rw (length-map xs (λ x. (both (invert o) x).answer), written-masked bits (invert o) xs, value-invert bits o) (go (value bits o))
+masked-word : (bits : ℕ → ℕ → Bool) (o : Edge) (xs : List Edge) → word bits (masked (invert o) xs).answer ≡ (if value bits o then word bits (replicate (length xs) (constant false)) else word bits xs)
+masked-word bits o xs = rw (masked-length (invert o) xs, masked-value bits (invert o) xs, value-invert bits o) (go (value bits o))
   where
     go : (b : Bool) → record { width = length xs; number = bit_number (not b) * written_number bits xs } ≡ (if b then word bits (replicate (length xs) (constant false)) else word bits xs)
     go true = rw (length-replicate (length xs) (constant false), written-falses bits (length xs)) (let e : 0 * written_number bits xs ≡ 0 = omega arith in rw e refl)
@@ -192,7 +184,7 @@ variable_shift-word {move} {op} law bits xs ys f =
 pub variable_shift_signed-word : (bits : ℕ → ℕ → Bool) (xs ys : List Edge) → 1 ≤ length xs → word bits (variable_shift_signed xs ys).answer ≡ is.ashr_by (word bits xs) (written_number bits ys)
 unfolding variable_shift_signed ◌>>=◌
 variable_shift_signed-word bits xs ys f =
-    choice-word bits (overflow (length xs) ys).answer (replicate (length xs) (top_bit xs)) (stages shifted_right_signed xs ys).answer (length-replicate (length xs) (top_bit xs) ∙ sym (stages-length is_move_down_signed xs ys))
+    chosen-word bits (overflow (length xs) ys).answer (replicate (length xs) (top_bit xs)) (stages shifted_right_signed xs ys).answer (length-replicate (length xs) (top_bit xs) ∙ sym (stages-length is_move_down_signed xs ys))
     ∙ (ap (λ b. if b then word bits (replicate (length xs) (top_bit xs)) else word bits (stages shifted_right_signed xs ys).answer) (overflow-value bits (length xs) ys)
     ∙ go (overflows (length xs) 0 (map (value bits) ys)) refl)
   where

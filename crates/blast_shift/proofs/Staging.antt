@@ -4,7 +4,7 @@ use Rattle.std.proofs.lemmas.Grind.{common_steps}
 use Rattle.std.proofs.lemmas.List.{length-map}
 use Rattle.std.proofs.Math.Nat.{pow-le-pow_right, mod-eq_of_lt}
 use Rattle.bv_value.proofs.Powers.{pow-pos, below_later}
-use Rattle.gate_shape.proofs.Numbers.{pow_more}
+use Rattle.bv_value.proofs.Bits.{pow_more}
 use Rattle.gate_shape.specs.Edge.{Edge}
 use Rattle.gate_shape.specs.Row.{Row, plain, ◌>>=◌, either}
 use Rattle.gate_shape.specs.Literal.{Literal}

@@ -5,8 +5,9 @@ use Rattle.gate_shape.specs.Literal.{Literal}
 use Rattle.gate_shape.specs.Edge.{Edge, constant}
 use Rattle.gate_shape.specs.Builds.{Meaning, edge, edges, AllKnown, Stands, StandAll}
 use Rattle.gate_shape.proofs.Building.{stand_append, stand_take, stand_self, stands_false, stand_lengths, known_item}
-use Rattle.blast_shift.specs.Wires.{bit_at, top_bit, shifted_left, shifted_right, shifted_right_signed, rotated_left, rotated_right, extracted, with_width, sign_extended}
-use Rattle.blast_shift.proofs.Wiring.{stand_as, stand_copies, stand_drop}
+use Rattle.blast_logic.specs.Words.{bit_at, top_bit}
+use Rattle.blast_shift.specs.Wires.{shifted_left, shifted_right, shifted_right_signed, rotated_left, rotated_right, extracted, with_width, sign_extended}
+use Rattle.blast_logic.proofs.Wiring.{stand_as, stand_copies, stand_drop}
 use Rattle.blast_shift.proofs.Cuts.{shifted_left-is, shifted_right-is, shifted_right_signed-is, rotated_left-is, rotated_right-is, extracted-is, with_width-is, sign_extended-is}
 
 -- the first literals of a list, and copies of a literal

@@ -5,13 +5,15 @@ use Rattle.std.proofs.lemmas.List.{length-append, length-map, map-append, drop-m
 use Rattle.std.proofs.lemmas.List.FromFn.{length-map-range_with_len}
 use Rattle.std.proofs.Math.Nat.{mod-eq_of_lt, mod-lt, div-le_self}
 use Rattle.gate_shape.specs.Edge.{Edge, constant, value}
-use Rattle.gate_shape.specs.Bits.{number, written_number}
-use Rattle.gate_shape.proofs.Numbers.{written-below, written-append}
+use Rattle.bv_value.specs.Bits.{number_of}
+use Rattle.blast_logic.specs.Words.{written_number}
+use Rattle.blast_logic.proofs.Numbers.{written-below, written-append}
 use Rattle.bv_value.specs.BitVector.{residue, floor_quotient, signed}
 use Rattle.bv_value.specs.Operations as is
 use Rattle.bv_value.proofs.Signs.{signed_low, signed_high}
-use Rattle.blast_arith.specs.Words.{word}
-use Rattle.blast_shift.specs.Wires.{bit_at, top_bit, appended, shifted_left, shifted_right, shifted_right_signed, rotated_left, rotated_right, extracted, with_width, sign_extended}
+use Rattle.blast_logic.specs.Words.{word}
+use Rattle.blast_logic.specs.Words.{bit_at, top_bit}
+use Rattle.blast_shift.specs.Wires.{appended, shifted_left, shifted_right, shifted_right_signed, rotated_left, rotated_right, extracted, with_width, sign_extended}
 use Rattle.blast_shift.proofs.Cuts.{shifted_left-is, shifted_right-is, shifted_right_signed-is, rotated_left-is, rotated_right-is, extracted-is, with_width-is, sign_extended-is}
 use Rattle.blast_shift.proofs.Amounts.{number-resized, number-resized_ones, number-left_zeros, number-left_ones, number-shifted_left, number-rotated_left, number-rotated_right, number-turned, bit-is, top-is}
 
@@ -80,11 +82,11 @@ module _ (bits : ℕ → ℕ → Bool) where
   shifted_left-value n xs =
       let k : ℕ = min n (length xs) in
       let whole = rw (same xs) at (number-shifted_left (bools xs) n k (ap (min n) (sym (same xs)))) in
-      word-is (shifted_left n xs) (length xs) _ (shifted_left-length n xs) (ap (written_number bits) (sym (shifted_left-is n k xs refl)) ∙ ap number (values-shifted_left k xs) ∙ rw same whole)
+      word-is (shifted_left n xs) (length xs) _ (shifted_left-length n xs) (ap (written_number bits) (sym (shifted_left-is n k xs refl)) ∙ ap number_of (values-shifted_left k xs) ∙ rw same whole)
 
   -- what is left behind the first places, with zeros above
   left-written : (n k width : ℕ) (xs : List Edge) → k ≡ min n (length xs) → written_number bits (take width (drop k xs) ++ replicate (width - length (drop k xs)) (constant false)) ≡ written_number bits xs / 2 ^ n % 2 ^ width
-  left-written n k width xs e = ap number (values-left k xs (constant false) width ∙ ap (λ z. take width (drop k (bools xs)) ++ replicate (width - length (drop k (bools xs))) z) false-value) ∙ number-left_zeros (bools xs) n k width (e ∙ ap (min n) (sym (same xs)))
+  left-written n k width xs e = ap number_of (values-left k xs (constant false) width ∙ ap (λ z. take width (drop k (bools xs)) ++ replicate (width - length (drop k (bools xs))) z) false-value) ∙ number-left_zeros (bools xs) n k width (e ∙ ap (min n) (sym (same xs)))
 
   pub shifted_right-value : (n : ℕ) (xs : List Edge) → word bits (shifted_right n xs) ≡ is.lshr_by (word bits xs) n
   shifted_right-value n xs =
@@ -96,7 +98,7 @@ module _ (bits : ℕ → ℕ → Bool) where
   extracted-value n count xs = word-is (extracted n count xs) count _ (extracted-length n count xs) (ap (written_number bits) (sym (extracted-is n (min n (length xs)) count xs refl)) ∙ left-written n (min n (length xs)) count xs refl)
 
   pub with_width-value : (width : ℕ) (xs : List Edge) → word bits (with_width width xs) ≡ is.set_width (word bits xs) width
-  with_width-value width xs = word-is (with_width width xs) width _ (with_width-length width xs) (ap (written_number bits) (sym (with_width-is width xs)) ∙ ap number (values-resized xs (constant false) width ∙ ap (λ z. take width (bools xs) ++ replicate (width - length (bools xs)) z) false-value) ∙ number-resized (bools xs) width)
+  with_width-value width xs = word-is (with_width width xs) width _ (with_width-length width xs) (ap (written_number bits) (sym (with_width-is width xs)) ∙ ap number_of (values-resized xs (constant false) width ∙ ap (λ z. take width (bools xs) ++ replicate (width - length (bools xs)) z) false-value) ∙ number-resized (bools xs) width)
 
   bit-bools : (xs : List Edge) (i : ℕ) → get_or (bools xs) i false ≡ value bits (bit_at xs i)
   unfolding value
@@ -120,20 +122,20 @@ module _ (bits : ℕ → ℕ → Bool) where
   signed_false : (xs : List Edge) → 1 ≤ length xs → value bits (top_bit xs) ≡ false → signed (word bits xs) ≡ pos (written_number bits xs)
   signed_false xs one t = signed_low (word bits xs) (top-value xs one ∙ t)
 
-  turned : (xs : List Edge) → number (map not (bools xs)) ≡ 2 ^ length xs - 1 - written_number bits xs
-  turned xs = number-turned (bools xs) ∙ ap (λ z. 2 ^ z - 1 - number (bools xs)) (same xs)
+  turned : (xs : List Edge) → number_of (map not (bools xs)) ≡ 2 ^ length xs - 1 - written_number bits xs
+  turned xs = number-turned (bools xs) ∙ ap (λ z. 2 ^ z - 1 - number_of (bools xs)) (same xs)
 
   pub shifted_right_signed-value : (n : ℕ) (xs : List Edge) → 1 ≤ length xs → word bits (shifted_right_signed n xs) ≡ is.ashr_by (word bits xs) n
-  shifted_right_signed-value n xs one = word-is (shifted_right_signed n xs) (length xs) _ (shifted_right_signed-length n xs) (ap (written_number bits) (sym (shifted_right_signed-is n (min n (length xs)) xs one refl)) ∙ ap number (values-left (min n (length xs)) xs (top_bit xs) (length xs)) ∙ go (value bits (top_bit xs)) refl)
+  shifted_right_signed-value n xs one = word-is (shifted_right_signed n xs) (length xs) _ (shifted_right_signed-length n xs) (ap (written_number bits) (sym (shifted_right_signed-is n (min n (length xs)) xs one refl)) ∙ ap number_of (values-left (min n (length xs)) xs (top_bit xs) (length xs)) ∙ go (value bits (top_bit xs)) refl)
     where
-      go : (b : Bool) → value bits (top_bit xs) ≡ b → number (take (length xs) (drop (min n (length xs)) (bools xs)) ++ replicate (length xs - length (drop (min n (length xs)) (bools xs))) b) ≡ residue (2 ^ length xs) (floor_quotient (signed (word bits xs)) (2 ^ n))
+      go : (b : Bool) → value bits (top_bit xs) ≡ b → number_of (take (length xs) (drop (min n (length xs)) (bools xs)) ++ replicate (length xs - length (drop (min n (length xs)) (bools xs))) b) ≡ residue (2 ^ length xs) (floor_quotient (signed (word bits xs)) (2 ^ n))
       go true t = rw (number-left_ones (bools xs) n (min n (length xs)) (length xs) (ap (min n) (sym (same xs))), turned xs, signed_true xs one t) refl
       go false t = rw (number-left_zeros (bools xs) n (min n (length xs)) (length xs) (ap (min n) (sym (same xs))), signed_false xs one t) refl
 
   pub sign_extended-value : (width : ℕ) (xs : List Edge) → 1 ≤ length xs → word bits (sign_extended width xs) ≡ is.sign_extend (word bits xs) width
-  sign_extended-value width xs one = word-is (sign_extended width xs) width _ (sign_extended-length width xs) (ap (written_number bits) (sym (sign_extended-is width xs one)) ∙ ap number (values-resized xs (top_bit xs) width) ∙ go (value bits (top_bit xs)) refl)
+  sign_extended-value width xs one = word-is (sign_extended width xs) width _ (sign_extended-length width xs) (ap (written_number bits) (sym (sign_extended-is width xs one)) ∙ ap number_of (values-resized xs (top_bit xs) width) ∙ go (value bits (top_bit xs)) refl)
     where
-      go : (b : Bool) → value bits (top_bit xs) ≡ b → number (take width (bools xs) ++ replicate (width - length (bools xs)) b) ≡ residue (2 ^ width) (signed (word bits xs))
+      go : (b : Bool) → value bits (top_bit xs) ≡ b → number_of (take width (bools xs) ++ replicate (width - length (bools xs)) b) ≡ residue (2 ^ width) (signed (word bits xs))
       go true t = rw (number-resized_ones (bools xs) width, turned xs, signed_true xs one t) refl
       go false t = rw (number-resized (bools xs) width, signed_false xs one t) refl
 
@@ -145,14 +147,14 @@ module _ (bits : ℕ → ℕ → Bool) where
       let k : ℕ = n % length xs in
       let small : k < length xs = mod-lt n one in
       let whole = rw (same xs) at (number-rotated_left (bools xs) k (rw same (omega arith))) in
-      word-is (rotated_left n xs) (length xs) _ (rotated_left-length n xs) (ap (written_number bits) (sym (rotated_left-is n k xs one refl)) ∙ ap number (values-cut (length xs - k) (length xs - k) xs) ∙ whole)
+      word-is (rotated_left n xs) (length xs) _ (rotated_left-length n xs) (ap (written_number bits) (sym (rotated_left-is n k xs one refl)) ∙ ap number_of (values-cut (length xs - k) (length xs - k) xs) ∙ whole)
 
   pub rotated_right-value : (n : ℕ) (xs : List Edge) → 1 ≤ length xs → word bits (rotated_right n xs) ≡ is.rotr (word bits xs) n
   rotated_right-value n xs one =
       let k : ℕ = n % length xs in
       let small : k < length xs = mod-lt n one in
       let whole = rw (same xs) at (number-rotated_right (bools xs) k (rw same (omega arith))) in
-      word-is (rotated_right n xs) (length xs) _ (rotated_right-length n xs) (ap (written_number bits) (sym (rotated_right-is n k xs one refl)) ∙ ap number (values-cut k k xs) ∙ whole)
+      word-is (rotated_right n xs) (length xs) _ (rotated_right-length n xs) (ap (written_number bits) (sym (rotated_right-is n k xs one refl)) ∙ ap number_of (values-cut k k xs) ∙ whole)
 
   pub appended-value : (xs ys : List Edge) → word bits (appended xs ys) ≡ is.append (word bits xs) (word bits ys)
   appended-value xs ys =

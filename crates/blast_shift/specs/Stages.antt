@@ -3,9 +3,10 @@
 use Rattle.std.specs.Prelude.{ℕ, ◌^◌, false, List, length, replicate, nat_lt, if◌then◌else◌}
 use Rattle.std.specs.List.{enumerate_from}
 use Rattle.gate_shape.specs.Edge.{Edge, constant, invert}
-use Rattle.gate_shape.specs.Row.{Row, plain, ◌>>=◌, along, each, both, either}
-use Rattle.blast_logic.specs.Chosen.{chosen}
-use Rattle.blast_shift.specs.Wires.{top_bit, shifted_right_signed}
+use Rattle.gate_shape.specs.Row.{Row, plain, ◌>>=◌, along, either}
+use Rattle.blast_logic.specs.Chosen.{chosen, masked}
+use Rattle.blast_logic.specs.Words.{top_bit}
+use Rattle.blast_shift.specs.Wires.{shifted_right_signed}
 
 -- bit k of the amount, of weight 2^k: where the weight is below the width, the bits moved by it or as they are
 unfoldable pub stage : (ℕ → List Edge → List Edge) → List Edge → ℕ × Edge → Row (List Edge)
@@ -28,7 +29,7 @@ unfoldable pub variable_shift : (ℕ → List Edge → List Edge) → List Edge 
 variable_shift move xs ys = do
   moved ← stages move xs ys
   over ← overflow (length xs) ys
-  each (both (invert over)) moved
+  masked (invert over) moved
 
 -- the bits moved down by an amount, the top bit above them
 unfoldable pub variable_shift_signed : List Edge → List Edge → Row (List Edge)

@@ -1,17 +1,10 @@
 -- The rows that make no gate: each bit of the answer is a bit of the argument, or false. Bit 0 is the lowest, and w is
 -- the length of the argument.
-use Rattle.std.specs.Prelude.{ℕ, ◌+◌, ◌-◌, ◌%◌, false, List, ◌++◌, length, map, min, nat_lt, if◌then◌else◌, slice_index_or, pos, ◌-ℤ◌}
+use Rattle.std.specs.Prelude.{ℕ, ◌+◌, ◌-◌, ◌%◌, false, List, ◌++◌, length, map, min, nat_lt, if◌then◌else◌, pos, ◌-ℤ◌}
 use Rattle.std.specs.List.{range_with_len}
 use Rattle.gate_shape.specs.Edge.{Edge, constant}
 use Rattle.bv_value.specs.BitVector.{residue}
-
--- bit j of a list, and false from its length on
-abbrev pub bit_at : List Edge → ℕ → Edge
-bit_at xs j = slice_index_or xs j (constant false)
-
--- the top bit
-abbrev pub top_bit : List Edge → Edge
-top_bit xs = bit_at xs (length xs - 1)
+use Rattle.blast_logic.specs.Words.{bit_at}
 
 -- so many bits, bit j of them `bit j`
 abbrev pub bits_by : ℕ → (ℕ → Edge) → List Edge

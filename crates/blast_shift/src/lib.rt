@@ -6,7 +6,6 @@
 //! all values of the inputs.
 #![tactic(auto)]
 
-mod lists;
 mod parts;
 mod shifts;
 mod stages;

@@ -5,10 +5,11 @@ ghost use Rattle.std.specs.Prelude.{◌≡◌, ◌≤◌, ℕ, Bool, IfOk, IsOk,
 ghost use Rattle.gate_shape.specs.Row.{plain};
 ghost use Rattle.gate_shape.specs.Builds.{Stands, edge, AllKnown, edges, Builds, StandAll};
 ghost use Rattle.bv_value.specs.Operations as is;
-ghost use Rattle.blast_arith.specs.Words.{word};
-ghost use Rattle.blast_shift.specs.Wires.{appended, extracted, with_width, sign_extended, bit_at, top_bit};
+ghost use Rattle.blast_logic.specs.Words.{word};
+ghost use Rattle.blast_logic.specs.Words.{bit_at, top_bit};
+ghost use Rattle.blast_shift.specs.Wires.{appended, extracted, with_width, sign_extended};
 
-use crate::lists::{capped, joined, resized};
+use blast_logic::{capped, joined, resized};
 use gate_shape::{Builder, GateStop, Lit23};
 use std::alloc::Global;
 

@@ -4,10 +4,10 @@ ghost use Rattle.std.specs.Prelude.{◌≡◌, ◌≤◌, ℕ, Bool, IfOk, lengt
 ghost use Rattle.gate_shape.specs.Row.{plain};
 ghost use Rattle.gate_shape.specs.Builds.{AllKnown, edges, Builds, StandAll};
 ghost use Rattle.bv_value.specs.Operations as is;
-ghost use Rattle.blast_arith.specs.Words.{word};
+ghost use Rattle.blast_logic.specs.Words.{word};
 ghost use Rattle.blast_shift.specs.Wires.{shifted_left, shifted_right, shifted_right_signed, rotated_left, rotated_right};
 
-use crate::lists::{behind_copies, capped, joined, resized};
+use blast_logic::{behind_copies, capped, joined, resized};
 use gate_shape::{Builder, GateStop, Lit23};
 use std::alloc::Global;
 

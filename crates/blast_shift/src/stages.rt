@@ -1,19 +1,18 @@
 //! Shifts by bit vectors: a stage for each bit of the amount.
 
 ghost use Rattle.std.specs.Prelude.{◌≡◌, ◌<◌, ◌≤◌, ◌^◌, ℕ, Bool, true, IfOk, length, nat_lt};
-ghost use Rattle.gate_shape.specs.Row.{plain, each, both};
-ghost use Rattle.gate_shape.specs.Bits.{written_number};
+ghost use Rattle.gate_shape.specs.Row.{plain};
+ghost use Rattle.blast_logic.specs.Words.{written_number};
 ghost use Rattle.gate_shape.specs.Builds.{Known, AllKnown, edge, edges, Builds, Stands, StandAll};
 ghost use Rattle.bv_value.specs.Operations as is;
-ghost use Rattle.blast_arith.specs.Words.{word};
+ghost use Rattle.blast_logic.specs.Words.{word};
 ghost use Rattle.blast_shift.specs.Wires.{shifted_left, shifted_right};
 ghost use Rattle.blast_shift.specs.Stages.{stage as stage_row, stages as stage_rows, or_overflow as overflow_step, overflow as overflow_row, variable_shift as variable_shift_row, variable_shift_signed};
 ghost use Rattle.blast_shift.specs.Ways.{moved_by as row_moved_by};
 
-use crate::lists::{copied, copies};
 use crate::shifts::{ashr_by, lshr_by, shl_by};
-use blast_logic::choose;
-use gate_shape::{Builder, GateStop, Lit23, append, or2};
+use blast_logic::{choose, copied, copies, masked};
+use gate_shape::{Builder, GateStop, Lit23, or2};
 use std::alloc::Global;
 
 // Where bits move, and what comes in behind them.
@@ -128,25 +127,6 @@ fn overflow<B: Builder>(b: &mut B, width: usize, y: &[Lit23]) -> Result<Lit23, G
         over = or_overflow(b, width, over, k, y[k])?;
     }
     Ok(over)
-}
-
-// The conjunction of each literal with one.
-fn masked<B: Builder>(
-    alloc: Global,
-    b: &mut B,
-    mask: Lit23,
-    x: &[Lit23],
-) -> Result<Vec<Lit23>, GateStop>
-    requires mask { Known (B.meaning b.old) mask }
-    requires known { AllKnown (B.meaning b.old) x.now }
-    ensures { let m = B.meaning b.old in Builds B.noted (λ m r. StandAll m r.items) m (B.meaning b.new) result (each (both (edge m mask)) (edges m x.now)) }
-{
-    let mut out = Vec::new(alloc);
-    for i in 0..x.len() {
-        let kept = b.and(mask, x[i])?;
-        append(&mut out, kept)?;
-    }
-    Ok(out)
 }
 
 // The bits moved by an amount, false where it is too great.

@@ -6,7 +6,7 @@ use Rattle.std.proofs.lemmas.Nat.Bits.{bit_at_lowest, bit_at-suc, bit_at_and, bi
 use Rattle.std.proofs.Math.Nat.{mod-lt, div-add-mod}
 use Rattle.bv_value.specs.Bits.{bit_number, number_of, bits_of, at_each, differ}
 
-pow_more : (n : ℕ) → 2 ^ suc n ≡ 2 * 2 ^ n
+pub pow_more : (n : ℕ) → 2 ^ suc n ≡ 2 * 2 ^ n
 pow_more n = grind (arith, common_steps)
 
 -- one more bit at the bottom

@@ -3,3 +3,4 @@ pub mod Bits
 pub mod Signs
 pub mod Rows
 pub mod Results
+pub mod Magnitudes

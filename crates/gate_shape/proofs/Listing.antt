@@ -118,9 +118,10 @@ unfolding key_below
 key_once m a b x y p q = rw (← p, ← q, key_at m a x p, key_at m b y q) refl
 
 -- the meaning of a longer list
-pub keeps_more : (limit : ℕ) (gs : List Gate) (g : Gate) → Keeps (holding limit gs) (holding limit (gs ++ g ∷ []))
-keeps_more limit gs g = record {
+pub keeps_more : (limit : ℕ) (gs : List Gate) (g : Gate) → OneEach (holding limit (gs ++ g ∷ [])) → Keeps (holding limit gs) (holding limit (gs ++ g ∷ []))
+keeps_more limit gs g once = record {
   stays = λ s h. (grind (arith, common_steps), let l : s < length gs = grind (arith, common_steps) in grind (arith, common_steps, elements));
+  once = λ h. once;
   base = refl;
 }
 
@@ -273,28 +274,6 @@ module _ (limit : ℕ) (pairs : List (Literal × Literal)) (levels : List ℕ) (
   unfolding longer
   last_gate = get_or_push gs g no_gate (length gs) refl
 
-  pub place_new : NotDeep g → ((s : ℕ) (d : Literal × Literal) → s < length pairs → slice_index_or pairs s d ≡ (left, right) → ⊥) → Builds note_new Stands m (holding limit (gates_of (pairs ++ (left, right) ∷ []))) (Ok record { node = 8193 + length pairs; sign = false }) record { answer = gate_edge g; gates = g ∷ [] }
-  unfolding longer
-  place_new fit no_pair =
-      let P : Gate → Type 0 = λ z. Stands longer record { node = 8193 + length gs; sign = false } (gate_edge z) in
-      let q : Builds note_new Stands m longer (Ok record { node = 8193 + length gs; sign = false }) record { answer = gate_edge g; gates = g ∷ [] } = record {
-        keeps = keeps_more limit gs g;
-        outcome = (
-          subst P last_gate (stands_gate longer (length gs) last_known),
-          record {
-            has = one_has longer g (length gs, last_known, last_gate);
-            fit = one_fit g fit;
-            trace = sym (note_unknown gs g (absent no_pair));
-          },
-        );
-      } in
-      rw (gates_of-push pairs (left, right), ← length-gates_of pairs) q
-
-  gate_of_more : (p : Literal × Literal) → Known m p.0 → Known m p.1 → gate_of (gs ++ g ∷ []) p ≡ gate_of gs p
-  gate_of_more p a b = gate_eta _ _
-      (edge_kept (holding 0 gs) (holding 0 (gs ++ g ∷ [])) p.0 (keeps_more 0 gs g) record { holds = a.holds })
-      (edge_kept (holding 0 gs) (holding 0 (gs ++ g ∷ [])) p.1 (keeps_more 0 gs g) record { holds = b.holds })
-
   once_more : ((s : ℕ) (d : Literal × Literal) → s < length pairs → slice_index_or pairs s d ≡ (left, right) → ⊥) → (i j : ℕ) → i < length pairs + 1 → j < length pairs + 1 → slice_index_or (gs ++ g ∷ []) i no_gate ≡ slice_index_or (gs ++ g ∷ []) j no_gate → i ≡ j
   once_more no_pair i j li lj e =
       by_push (length pairs) i _ li
@@ -311,16 +290,46 @@ module _ (limit : ℕ) (pairs : List (Literal × Literal)) (levels : List ℕ) (
       clash : (k : ℕ) → k < length pairs → slice_index_or gs k no_gate ≡ g → ⊥
       clash k a q = not_there no_pair (k, (let b = inside k a in grind (arith, common_steps)), q)
 
+  -- equal edges have equal literals in the longer list
+  one_more : ((s : ℕ) (d : Literal × Literal) → s < length pairs → slice_index_or pairs s d ≡ (left, right) → ⊥) → (most : ℕ) → OneEach (holding most (gs ++ g ∷ []))
+  one_more no_pair most =
+      let long : length (gs ++ g ∷ []) ≡ length pairs + 1 = length-append gs (g ∷ []) ∙ ap (λ n. n + 1) (length-gates_of pairs) in
+      edge_once most (gs ++ g ∷ []) (λ i j li lj e. once_more no_pair i j (rw long at li) (rw long at lj) e)
+
+  pub place_new : NotDeep g → ((s : ℕ) (d : Literal × Literal) → s < length pairs → slice_index_or pairs s d ≡ (left, right) → ⊥) → Builds note_new Stands m (holding limit (gates_of (pairs ++ (left, right) ∷ []))) (Ok record { node = 8193 + length pairs; sign = false }) record { answer = gate_edge g; gates = g ∷ [] }
+  unfolding longer
+  place_new fit no_pair =
+      let P : Gate → Type 0 = λ z. Stands longer record { node = 8193 + length gs; sign = false } (gate_edge z) in
+      let q : Builds note_new Stands m longer (Ok record { node = 8193 + length gs; sign = false }) record { answer = gate_edge g; gates = g ∷ [] } = record {
+        keeps = keeps_more limit gs g (one_more no_pair limit);
+        outcome = (
+          subst P last_gate (stands_gate longer (length gs) last_known),
+          record {
+            has = one_has longer g (length gs, last_known, last_gate);
+            fit = one_fit g fit;
+            trace = sym (note_unknown gs g (absent no_pair));
+          },
+        );
+      } in
+      rw (gates_of-push pairs (left, right), ← length-gates_of pairs) q
+
+  gate_of_more : ((s : ℕ) (d : Literal × Literal) → s < length pairs → slice_index_or pairs s d ≡ (left, right) → ⊥) → (p : Literal × Literal) → Known m p.0 → Known m p.1 → gate_of (gs ++ g ∷ []) p ≡ gate_of gs p
+  gate_of_more no_pair p a b =
+      let k = keeps_more 0 gs g (one_more no_pair 0) in
+      gate_eta _ _
+      (edge_kept (holding 0 gs) (holding 0 (gs ++ g ∷ [])) p.0 k record { holds = a.holds })
+      (edge_kept (holding 0 gs) (holding 0 (gs ++ g ∷ [])) p.1 k record { holds = b.holds })
+
   pub listed_more : (lv : ℕ) → length levels ≡ length pairs → length pairs < limit → lv ≡ gate_level g → lv < 262144 → ((s : ℕ) (d : Literal × Literal) → s < length pairs → slice_index_or pairs s d ≡ (left, right) → ⊥) → IsListed limit (pairs ++ (left, right) ∷ []) (levels ++ lv ∷ [])
   unfolding longer
   listed_more lv as_long room right_level small no_pair = record {
     small = is.small;
     within = rw (length-append pairs ((left, right) ∷ [])) (omega arith);
-    left_known = rw (gates_of-push pairs (left, right)) (All-push (λ p. Known longer p.0) pairs (left, right) (λ i d l. known_kept m longer _ (keeps_more limit gs g) (is.left_known i d l)) (known_kept m longer left (keeps_more limit gs g) kl));
-    right_known = rw (gates_of-push pairs (left, right)) (All-push (λ p. Known longer p.1) pairs (left, right) (λ i d l. known_kept m longer _ (keeps_more limit gs g) (is.right_known i d l)) (known_kept m longer right (keeps_more limit gs g) kr));
+    left_known = rw (gates_of-push pairs (left, right)) (All-push (λ p. Known longer p.0) pairs (left, right) (λ i d l. known_kept m longer _ (keeps_more limit gs g (one_more no_pair limit)) (is.left_known i d l)) (known_kept m longer left (keeps_more limit gs g (one_more no_pair limit)) kl));
+    right_known = rw (gates_of-push pairs (left, right)) (All-push (λ p. Known longer p.1) pairs (left, right) (λ i d l. known_kept m longer _ (keeps_more limit gs g (one_more no_pair limit)) (is.right_known i d l)) (known_kept m longer right (keeps_more limit gs g (one_more no_pair limit)) kr));
     made = λ i d l. rw (gates_of-push pairs (left, right)) (by_push (length pairs) i _ (rw (length-append pairs ((left, right) ∷ [])) at l)
-        (λ a. rw (left_push pairs (left, right) d i a, gate_of_more (slice_index_or pairs i d) (is.left_known i d a) (is.right_known i d a)) (left_push gs g no_gate i (rw (length-gates_of pairs) a) ∙ is.made i d a))
-        (λ e. rw (last_push pairs (left, right) d i e, gate_of_more (left, right) kl kr) (last_push gs g no_gate i (e ∙ sym (length-gates_of pairs)))));
+        (λ a. rw (left_push pairs (left, right) d i a, gate_of_more no_pair (slice_index_or pairs i d) (is.left_known i d a) (is.right_known i d a)) (left_push gs g no_gate i (rw (length-gates_of pairs) a) ∙ is.made i d a))
+        (λ e. rw (last_push pairs (left, right) d i e, gate_of_more no_pair (left, right) kl kr) (last_push gs g no_gate i (e ∙ sym (length-gates_of pairs)))));
     levels_right = λ i l. rw (gates_of-push pairs (left, right)) (by_push (length pairs) i _ (rw (length-append pairs ((left, right) ∷ [])) at l)
         (λ a. rw (left_push levels lv 0 i (rw as_long a), left_push gs g no_gate i (rw (length-gates_of pairs) a)) (is.levels_right i a))
         (λ e. rw (last_push levels lv 0 i (e ∙ sym as_long), last_push gs g no_gate i (e ∙ sym (length-gates_of pairs))) right_level));

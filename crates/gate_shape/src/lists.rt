@@ -9,9 +9,9 @@ use crate::builder::GateStop;
 use crate::lit::Lit23;
 use std::alloc::{AllocError, Global};
 
-/// Appends a literal to a list, or wants memory.
+/// Appends a literal to a list, or wants memory, which leaves the list as it was. O(1) over many calls.
 pub fn append(list: &mut Vec<Lit23>, lit: Lit23) -> Result<(), GateStop>
-    ensures { MatchResult result (λ _. list.new.items ≡ list.old.items ++ lit ∷ []) IsMemory }
+    ensures { MatchResult result (λ _. list.new.items ≡ list.old.items ++ lit ∷ []) (λ stop. IsMemory stop × (list.new.items ≡ list.old.items)) }
 {
     match list.push(lit) {
         Ok(()) => Ok(()),

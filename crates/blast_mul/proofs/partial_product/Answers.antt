@@ -35,7 +35,7 @@ returns-in_err-masked g c =
 
 pub returns-in_err-append : goal.returns-in_err-append
 returns-in_err-append g c =
-    builds_memory_exit _ c.from_residual-in_err-append.ensures.1 c.in_err-append.ensures
+    builds_memory_exit _ c.from_residual-in_err-append.ensures.1 c.in_err-append.ensures.0
     (keeps_then _ _ _ (c.loop-j.invariant).keeps c.in_ok-masked.ensures.built.keeps)
 
 pub loop-j-preserved : goal.loop-j-preserved

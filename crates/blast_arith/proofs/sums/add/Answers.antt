@@ -38,7 +38,7 @@ returns-in_err-sum-clause-built g c =
 
 pub returns-in_err-append-clause-built : goal.returns-in_err-append-clause-built
 returns-in_err-append-clause-built g c =
-    builds_memory_exit _ c.from_residual-in_err-append.ensures.1 c.in_err-append.ensures
+    builds_memory_exit _ c.from_residual-in_err-append.ensures.1 c.in_err-append.ensures.0
     (keeps_then _ _ _ (c.loop-i.invariant).keeps c.in_ok-sum.ensures.keeps)
 
 pub loop-i-preserved : goal.loop-i-preserved

@@ -85,14 +85,16 @@ returns-in_err-sums-clause-built g c =
 pub returns-clause-built : goal.returns-clause-built
 unfolding signed_modulus
 returns-clause-built g c =
-    let u = c.in_ok-rest.ensures.built in
     let sx = stands_sign c.args.x.now c.requires.left (omega arith) (omega arith) c.index-x-top.is in
+    let sx_first = stands_sign c.args.x.now c.requires.left (omega arith) (omega arith) c.index-x-top-2.is in
+    let sy_first = stands_sign c.args.y.now c.requires.right (omega arith) (omega arith) c.index-y-top.is in
+    let u = c.in_ok-rest.ensures.built in
     let rest = rw (sym c.deref.ensures.value) at (builds_answer u) in
     let v = rw ((stands_after u sx).stands_for, rest.stand_for) at c.in_ok-signed.ensures.built in
     let rest_2 = rw (sym c.deref-2.ensures.value) at (stand_after v (builds_answer u)) in
     let e = rw rest_2.stand_for at c.in_ok-zero.ensures in
-    let sx_2 = stands_after e (stands_after v (stands_after u (stands_sign c.args.x.now c.requires.left (omega arith) (omega arith) c.index-x-top-2.is))) in
-    let sy = stands_after e (stands_after v (stands_after u (stands_sign c.args.y.now c.requires.right (omega arith) (omega arith) c.index-y-top.is))) in
+    let sx_2 = stands_after e (stands_after v (stands_after u sx_first)) in
+    let sy = stands_after e (stands_after v (stands_after u sy_first)) in
     let d = builds_at_two differ sx_2 sy c.in_ok-differ.ensures in
     let k = builds_at_two both (builds_answer d) (stands_not c.not.ensures (stands_after d (builds_answer e))) c.in_ok-turned.ensures.built in
     let before = rw (sym c.deref-3.ensures.value) at (stand_after k (stand_after d (stand_after e (builds_answer v)))) in

@@ -1,7 +1,7 @@
 use Rattle.std.proofs.Common.{◌≡◌, ◌<◌, ◌≤◌, ◌-◌, ◌∷◌, ◌∙◌, [], sym, ap, length, reverse, arith}
 use Rattle.std.proofs.lemmas.List.{length-map, length-reverse, length-replicate, reverse-append}
 use Rattle.gate_shape.specs.Builds.{edge, edges}
-use Rattle.gate_shape.proofs.Building.{known_item, stand_after, stands_self, stands_after, stand_none, stand_falses, stand_cons, stand_lengths, builds_then, builds_stop, builds_plain, builds_answer, builds_as, builds_at_lists_and_one}
+use Rattle.gate_shape.proofs.Building.{known_item, stand_after, stands_self, stands_after, stand_none, stand_falses, stand_cons, stand_lengths, builds_then, builds_stop, builds_plain, builds_answer, builds_as, builds_memory_exit, builds_at_lists_and_one, keeps_then}
 use Rattle.gate_shape.proofs.Looping.{reached_none, reached_more, reached_all, reached_refusal}
 use Rattle.blast_div.specs.Division.{divide_step, divide_bit, division, negated_divisor}
 use Rattle.blast_div.proofs.Dividing.{StandReversed, stand_negated, item_reversed}
@@ -34,6 +34,11 @@ returns-in_err-fits-clause-built g c =
     let x = stands_after p (stands_self (known_item _ c.requires.left k c.index-x-width.is)) in
     let q = builds_at_lists_and_one divide_step divisor rest x c.in_err-fits.ensures.built in
     reached_refusal _ StandReversed (divide_bit (negated_divisor (edges m c.args.y.now))) _ _ c.from_residual-in_err-fits.ensures.1 inside (item_reversed m _ lx c.index-x-width.is) p (builds_stop _ q)
+
+pub returns-in_err-append-clause-built : goal.returns-in_err-append-clause-built
+returns-in_err-append-clause-built g c =
+    builds_memory_exit _ c.from_residual-in_err-append.ensures.1 c.in_err-append.ensures.0
+    (keeps_then _ _ _ (c.loop-i.invariant.built).keeps c.in_ok-fits.ensures.built.keeps)
 
 pub loop-i-preserved : goal.loop-i-preserved
 loop-i-preserved g c =

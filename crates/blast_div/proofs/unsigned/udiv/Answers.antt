@@ -9,8 +9,8 @@ use Rattle.blast_div.proofs.unsigned.udiv.Goals as goal
 pub is_zero-requires : goal.is_zero-requires
 is_zero-requires g c = (stand_after c.in_ok-bits.ensures.built (stand_self c.requires.right)).known
 
-pub masked-requires-clause-bit : goal.masked-requires-clause-bit
-masked-requires-clause-bit g c = (stands_not c.not.ensures (builds_answer c.in_ok-zero.ensures)).known
+pub masked-requires-clause-mask : goal.masked-requires-clause-mask
+masked-requires-clause-mask g c = (stands_not c.not.ensures (builds_answer c.in_ok-zero.ensures)).known
 
 pub masked-requires-clause-known : goal.masked-requires-clause-known
 masked-requires-clause-known g c = (rw (sym c.deref.ensures.value) at (stand_after c.in_ok-zero.ensures (builds_answer c.in_ok-bits.ensures.built).0)).known

@@ -5,10 +5,10 @@ use Rattle.blast_goal.proofs.goal.without_conclusion.Goals as goal
 
 pub returns-in_err-c-clause-built : goal.returns-in_err-c-clause-built
 unfolding and_not_conclusion
-returns-in_err-c-clause-built g c = builds_exit _ c.from_residual.ensures.1 c.in_err-c.ensures
+returns-in_err-c-clause-built g c = builds_exit _ c.from_residual.ensures.1 c.in_err-c.ensures.built
 
 pub returns-clause-built : goal.returns-clause-built
 unfolding and_not_conclusion
 returns-clause-built g c =
-    let p = c.in_ok-c.ensures in
+    let p = c.in_ok-c.ensures.built in
     builds_then _ p (builds_at_two both (stands_after p (stands_self c.requires)) (stands_not c.not.ensures (stands_answer p)) c.and.ensures.built)

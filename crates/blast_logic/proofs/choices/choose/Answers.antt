@@ -7,7 +7,7 @@ use Rattle.gate_shape.specs.Builds.{edge, edges, StandAll}
 use Rattle.gate_shape.proofs.Building.{known_item, known_after, item_two, length_two, stands_self, stands_after, stand_none, keeps_then, builds_stop, builds_answer, builds_as, builds_at_three, builds_memory_exit}
 use Rattle.gate_shape.proofs.Looping.{reached_none, reached_more, reached_all, reached_refusal, gathered}
 use Rattle.blast_logic.specs.Chosen.{chosen}
-use Rattle.blast_logic.proofs.Picking.{chosen-value}
+use Rattle.blast_logic.proofs.Picking.{chosen-word}
 use Rattle.blast_logic.proofs.choices.choose.Goals as goal
 
 pub ite-requires-clause-condition : goal.ite-requires-clause-condition
@@ -39,7 +39,7 @@ returns-in_err-chosen-clause-built g c =
 
 pub returns-in_err-append-clause-built : goal.returns-in_err-append-clause-built
 returns-in_err-append-clause-built g c =
-    builds_memory_exit _ c.from_residual-in_err-append.ensures.1 c.in_err-append.ensures
+    builds_memory_exit _ c.from_residual-in_err-append.ensures.1 c.in_err-append.ensures.0
     (keeps_then _ _ _ (c.loop-i.invariant).keeps c.in_ok-chosen.ensures.keeps)
 
 pub loop-i-preserved : goal.loop-i-preserved
@@ -66,4 +66,4 @@ returns-clause-built g c =
 pub returns-clause-value : goal.returns-clause-value
 returns-clause-value g c = λ bits.
     let m = g.B.Builder.meaning c.args.b.now in
-    rw (builds_answer (returns-clause-built g c)).stand_for (chosen-value bits (edge m c.args.c) (edges m c.args.x.now) (edges m c.args.y.now) (simp length-map c.requires.lengths))
+    rw (builds_answer (returns-clause-built g c)).stand_for (chosen-word bits (edge m c.args.c) (edges m c.args.x.now) (edges m c.args.y.now) (simp length-map c.requires.lengths))

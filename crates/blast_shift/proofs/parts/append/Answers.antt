@@ -1,8 +1,8 @@
 use Rattle.gate_shape.specs.Builds.{edges}
 use Rattle.gate_shape.proofs.Building.{stand_append, stand_self}
 use Rattle.bv_value.specs.Operations as is
-use Rattle.blast_arith.specs.Words.{word}
-use Rattle.blast_shift.proofs.Wiring.{wired, written}
+use Rattle.blast_logic.specs.Words.{word}
+use Rattle.blast_logic.proofs.Wiring.{wired, written}
 use Rattle.blast_shift.proofs.Values.{appended-value}
 use Rattle.blast_shift.proofs.parts.append.Goals as goal
 use Rattle.std.proofs.Common.{refl}

@@ -2,7 +2,7 @@ use Rattle.gate_shape.specs.Builds.{edges}
 use Rattle.gate_shape.proofs.Building.{builds_plain}
 use Rattle.bv_value.specs.Operations as is
 use Rattle.blast_logic.proofs.Meanings.{meant}
-use Rattle.blast_arith.specs.Words.{word}
+use Rattle.blast_logic.specs.Words.{word}
 use Rattle.blast_shift.proofs.Standing.{stands_item, stands_behind}
 use Rattle.blast_shift.proofs.Values.{bit-value}
 use Rattle.blast_shift.proofs.parts.bit.Goals as goal

@@ -3,7 +3,7 @@ use Rattle.std.proofs.Common.{◌-◌, length}
 use Rattle.gate_shape.proofs.Building.{builds_plain}
 use Rattle.bv_value.specs.Operations as is
 use Rattle.blast_logic.proofs.Meanings.{meant}
-use Rattle.blast_arith.specs.Words.{word}
+use Rattle.blast_logic.specs.Words.{word}
 use Rattle.blast_shift.proofs.Standing.{stands_top}
 use Rattle.blast_shift.proofs.Values.{bit-value}
 use Rattle.blast_shift.proofs.parts.msb.Goals as goal

@@ -1,7 +1,7 @@
 use Rattle.gate_shape.specs.Builds.{edges}
 use Rattle.bv_value.specs.Operations as is
-use Rattle.blast_arith.specs.Words.{word}
-use Rattle.blast_shift.proofs.Wiring.{wired, written}
+use Rattle.blast_logic.specs.Words.{word}
+use Rattle.blast_logic.proofs.Wiring.{wired, written}
 use Rattle.blast_shift.proofs.Standing.{stand_with_width}
 use Rattle.blast_shift.proofs.Values.{with_width-value}
 use Rattle.blast_shift.proofs.parts.set_width.Goals as goal

@@ -1,7 +1,7 @@
 use Rattle.gate_shape.specs.Builds.{edges}
 use Rattle.bv_value.specs.Operations as is
-use Rattle.blast_arith.specs.Words.{word}
-use Rattle.blast_shift.proofs.Wiring.{wired_as, resized_left, written, at_least}
+use Rattle.blast_logic.specs.Words.{word}
+use Rattle.blast_logic.proofs.Wiring.{wired_as, resized_left, written, at_least}
 use Rattle.blast_shift.proofs.Standing.{stand_shifted_right_signed}
 use Rattle.blast_shift.proofs.Values.{shifted_right_signed-value}
 use Rattle.blast_shift.proofs.shifts.ashr_by.Goals as goal

@@ -1,7 +1,7 @@
 use Rattle.gate_shape.specs.Builds.{edges}
 use Rattle.bv_value.specs.Operations as is
-use Rattle.blast_arith.specs.Words.{word}
-use Rattle.blast_shift.proofs.Wiring.{wired_as, resized_left, written}
+use Rattle.blast_logic.specs.Words.{word}
+use Rattle.blast_logic.proofs.Wiring.{wired_as, resized_left, written}
 use Rattle.blast_shift.proofs.Standing.{stand_shifted_right}
 use Rattle.blast_shift.proofs.Values.{shifted_right-value}
 use Rattle.blast_shift.proofs.shifts.lshr_by.Goals as goal

@@ -1,8 +1,8 @@
 use Rattle.std.proofs.Common.{refl}
 use Rattle.gate_shape.specs.Builds.{edges}
 use Rattle.bv_value.specs.Operations as is
-use Rattle.blast_arith.specs.Words.{word}
-use Rattle.blast_shift.proofs.Wiring.{wired_as, joined_left, written, at_least}
+use Rattle.blast_logic.specs.Words.{word}
+use Rattle.blast_logic.proofs.Wiring.{wired_as, joined_left, written, at_least}
 use Rattle.blast_shift.proofs.Standing.{stand_rotated_left}
 use Rattle.blast_shift.proofs.Values.{rotated_left-value}
 use Rattle.blast_shift.proofs.shifts.rotl.Goals as goal

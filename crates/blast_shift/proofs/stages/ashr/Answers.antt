@@ -1,14 +1,14 @@
 use Rattle.std.proofs.Common.{◌∙◌, sym, ap, length, replicate}
 use Rattle.std.proofs.lemmas.List.{length-map, length-replicate}
-use Rattle.gate_shape.specs.Bits.{written_number}
+use Rattle.blast_logic.specs.Words.{written_number}
 use Rattle.gate_shape.specs.Builds.{edge, edges}
-use Rattle.gate_shape.proofs.Building.{builds_then, builds_exit, builds_answer, builds_at_one_and_lists, stand_self, stand_after, stands_after, stand_lengths}
+use Rattle.gate_shape.proofs.Building.{builds_then, builds_exit, builds_memory_exit, builds_answer, keeps_self, builds_at_one_and_lists, stand_self, stand_after, stands_after, stand_lengths}
 use Rattle.bv_value.specs.Operations as is
 use Rattle.blast_logic.specs.Chosen.{chosen}
-use Rattle.blast_arith.specs.Words.{word}
-use Rattle.blast_shift.specs.Wires.{top_bit}
+use Rattle.blast_logic.specs.Words.{word}
+use Rattle.blast_logic.specs.Words.{top_bit}
 use Rattle.blast_shift.specs.Stages.{variable_shift_signed}
-use Rattle.blast_shift.proofs.Wiring.{written, stand_given, stand_as, stand_copies, at_least}
+use Rattle.blast_logic.proofs.Wiring.{written, stand_given, stand_as, stand_copies, at_least}
 use Rattle.blast_shift.proofs.Standing.{stands_top}
 use Rattle.blast_shift.proofs.Staging.{overflow_at}
 use Rattle.blast_shift.proofs.Moves.{is_move_down_signed}
@@ -25,6 +25,14 @@ returns-in_err-over-clause-built g c =
     let m = g.B.Builder.meaning c.args.b.now in
     let p = c.in_ok-moved.ensures in
     builds_then _ p (builds_exit _ c.from_residual-in_err-over.ensures.1 (overflow_at m c.args.x.now (stand_after p (stand_self c.requires.right)).stand_for c.in_err-over.ensures))
+
+pub returns-in_err-tops-clause-built : goal.returns-in_err-tops-clause-built
+unfolding variable_shift_signed
+returns-in_err-tops-clause-built g c =
+    let m = g.B.Builder.meaning c.args.b.now in
+    let p = c.in_ok-moved.ensures in
+    let q = overflow_at m c.args.x.now (stand_after p (stand_self c.requires.right)).stand_for c.in_ok-over.ensures in
+    builds_then _ p (builds_then _ q (builds_memory_exit _ c.from_residual-in_err-tops.ensures.1 c.in_err-tops.ensures (keeps_self _)))
 
 pub choose-requires-clause-lengths : goal.choose-requires-clause-lengths
 choose-requires-clause-lengths g c =

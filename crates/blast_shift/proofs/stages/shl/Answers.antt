@@ -1,8 +1,8 @@
 use Rattle.gate_shape.specs.Builds.{edges}
-use Rattle.gate_shape.specs.Bits.{written_number}
+use Rattle.blast_logic.specs.Words.{written_number}
 use Rattle.bv_value.specs.Operations as is
-use Rattle.blast_arith.specs.Words.{word}
-use Rattle.blast_shift.proofs.Wiring.{written}
+use Rattle.blast_logic.specs.Words.{word}
+use Rattle.blast_logic.proofs.Wiring.{written}
 use Rattle.blast_shift.proofs.Moves.{is_move_up}
 use Rattle.blast_shift.proofs.Shifting.{variable_shift-word}
 use Rattle.blast_shift.proofs.stages.shl.Goals as goal

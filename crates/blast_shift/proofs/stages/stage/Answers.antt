@@ -5,7 +5,7 @@ use Rattle.gate_shape.specs.Builds.{edge, edges}
 use Rattle.gate_shape.proofs.Building.{builds_plain, builds_then, builds_exit, builds_answer, builds_at_one_and_lists, stand_self, stand_after, stands_self, stands_after, stand_lengths}
 use Rattle.blast_logic.specs.Chosen.{chosen}
 use Rattle.blast_shift.specs.Ways.{moved_by}
-use Rattle.blast_shift.proofs.Wiring.{stand_given}
+use Rattle.blast_logic.proofs.Wiring.{stand_given}
 use Rattle.blast_shift.proofs.Staging.{stage-within, stage-beyond, test_of, moved_by-length}
 use Rattle.blast_shift.proofs.stages.stage.Goals as goal
 

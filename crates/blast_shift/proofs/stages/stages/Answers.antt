@@ -6,7 +6,7 @@ use Rattle.gate_shape.proofs.Building.{known_after, known_item, stand_self, stan
 use Rattle.gate_shape.proofs.Looping.{reached_none, reached_more, reached_all, reached_refusal}
 use Rattle.blast_shift.specs.Stages.{stage, stages}
 use Rattle.blast_shift.specs.Ways.{moved_by}
-use Rattle.blast_shift.proofs.Wiring.{stand_given, builds_at_list_and_one}
+use Rattle.blast_logic.proofs.Wiring.{stand_given, builds_at_list_and_one}
 use Rattle.blast_shift.proofs.stages.stages.Goals as goal
 
 pub loop-k-init : goal.loop-k-init

@@ -3,7 +3,7 @@ use Rattle.gate_shape.specs.Edge.{Edge}
 use Rattle.gate_shape.specs.Row.{each, both}
 use Rattle.gate_shape.proofs.Building.{builds_then, builds_exit, builds_answer, stand_self, stand_after, stands_not}
 use Rattle.blast_shift.specs.Stages.{variable_shift}
-use Rattle.blast_shift.proofs.Wiring.{stand_given, builds_at_list_and_one}
+use Rattle.blast_logic.proofs.Wiring.{stand_given, builds_at_list_and_one}
 use Rattle.blast_shift.proofs.Staging.{overflow_at}
 use Rattle.blast_shift.proofs.stages.variable_shift.Goals as goal
 

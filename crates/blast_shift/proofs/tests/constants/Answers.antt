@@ -1,4 +1,4 @@
-use Rattle.std.proofs.Common.{◌≡◌, ◌+◌, ◌∙◌, ap, length, arith}
+use Rattle.std.proofs.Common.{ap, length, arith}
 use Rattle.std.proofs.lemmas.List.{length-append}
 use Rattle.gate_shape.proofs.Building.{stand_none, stand_push, stand_self}
 use Rattle.blast_logic.proofs.Meanings.{stands_constant}

@@ -1,9 +1,0 @@
--- The bit vector that a list of edges writes, bit 0 first.
-use Rattle.std.specs.Prelude.{ℕ, Bool, List, length}
-use Rattle.gate_shape.specs.Edge.{Edge}
-use Rattle.gate_shape.specs.Bits.{written_number}
-use Rattle.bv_value.specs.BitVector.{BitVector}
-
--- as wide as the list, where bit j of variable k has the value `bits k j`
-abbrev pub word : (ℕ → ℕ → Bool) → List Edge → BitVector
-word bits es = record { width = length es; number = written_number bits es }
