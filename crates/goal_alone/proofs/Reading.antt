@@ -1,8 +1,7 @@
 -- The values that are read off bits are values of the goal's variables.
-use Rattle.std.proofs.Common.{◌≡◌, ℕ, zero, suc, ◌+◌, ◌^◌, ◌<◌, Bool, true, false, List, [], ◌∷◌, map, nat_le, length, slice_index_or, refl, ◌∙◌, ap, ap₂, arith, Some}
-use Rattle.std.specs.Prelude.{All, IsTrue, slice_get, option_map}
+use Rattle.std.proofs.Common.{ℕ, ◌+◌, ◌^◌, ◌<◌, Bool, [], ◌∷◌, map, nat_le, arith}
+use Rattle.std.specs.Prelude.{All, IsTrue}
 use Rattle.std.specs.List.{range_with_len}
-use Rattle.std.proofs.Math.Bool.{and-true}
 use Rattle.std.proofs.lemmas.Bool.{and_parts}
 use Rattle.std.proofs.lemmas.Grind.{common_steps}
 use Rattle.std.proofs.lemmas.List.FromFn.{length-map-range_with_len}
@@ -11,9 +10,7 @@ use Rattle.blast_logic.proofs.Numbers.{number-below}
 use Rattle.bv_value.specs.Bits.{number_of}
 use Rattle.bv_expr.specs.declared.ops.Sort.{Sort}
 use Rattle.bv_expr.specs.declared.ops.Sort.TheVariants as sort
-use Rattle.bv_expr.specs.declared.ops.Val.TheVariants.{Truth}
-use Rattle.bv_expr.specs.Meaning.{sort_of_value}
-use Rattle.bv_expr.specs.Goal.{Binders, AreValues, IsValue, is_sort, sorts_of}
+use Rattle.bv_expr.specs.Goal.{Binders, AreValues, IsValue, is_sort}
 use Rattle.blast_goal.specs.Values.{value_with, values_from, values_of}
 use Rattle.blast_goal.proofs.Falsifying.{sorts_same}
 

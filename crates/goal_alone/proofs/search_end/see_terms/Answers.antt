@@ -1,4 +1,4 @@
-use Rattle.std.proofs.Common.{◌<◌, ◌≤◌, length, arith}
+use Rattle.std.proofs.Common.{arith}
 use Rattle.bv_expr.specs.Sorts.{IsExpr}
 use Rattle.blast_goal.proofs.Rows.{one_more_holds}
 use Rattle.goal_alone.proofs.search_end.see_terms.Goals as goal
