@@ -19,7 +19,8 @@ use Rattle.cone_walk.specs.Cone.{cone_node, cone_nodes}
 use Rattle.cone_walk.specs.Order.{order}
 use Rattle.gate_shape.specs.Edge.{Edge}
 use Rattle.std.proofs.lemmas.List.{length-map}
-use Rattle.goal_alone.specs.Satisfying.{node_bits, values_of, IsRefutation}
+use Rattle.blast_goal.specs.Values.{values_of}
+use Rattle.goal_alone.specs.Satisfying.{node_bits, IsRefutation}
 use Rattle.goal_alone.specs.Alone.{Answer, answer_of, solved, alone}
 use Rattle.goal_alone.specs.Alone as answer
 use Rattle.goal_alone.specs.Ended.{HasEnded}

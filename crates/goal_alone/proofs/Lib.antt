@@ -3,7 +3,6 @@ pub mod Counting
 pub mod Asking
 mod Once
 pub mod Reading
-mod Agreeing
 pub mod Satisfied
 mod Rows
 pub mod Turns

@@ -4,7 +4,8 @@ use Rattle.bv_expr.specs.declared.ops.Sort.TheVariants as sort
 use Rattle.bv_expr.specs.declared.ops.Val.TheVariants.{Truth, Vector}
 use Rattle.bv_expr.specs.Goal.{Binders}
 use Rattle.cone_walk.specs.declared.node.ConeNode.TheVariants.{Input}
-use Rattle.goal_alone.specs.Satisfying.{value_with, node_bits, values_of}
+use Rattle.blast_goal.specs.Values.{value_with, values_of}
+use Rattle.goal_alone.specs.Satisfying.{node_bits}
 
 -- a vector of 8 bits, the two lowest of which are true
 low_bits : value_with (sort.Vector 8) (λ j. nat_lt j 2) ≡ Vector (record { width = 8; number = 3 })

@@ -1,5 +1,5 @@
 -- The clauses of a goal are satisfiable exactly where some values falsify it.
-use Rattle.std.proofs.Common.{◌≡◌, ℕ, Bool, true, List, ◌∙◌}
+use Rattle.std.proofs.Common.{◌≡◌, ℕ, Bool, true, List, IsTrue}
 use Rattle.std.specs.Prelude.{◌↔◌}
 use Rattle.gate_shape.specs.Edge.{value}
 use Rattle.sat_form.specs.Literals.{Literal}
@@ -7,46 +7,36 @@ use Rattle.sat_form.specs.Truth.{satisfies}
 use Rattle.bv_expr.specs.declared.ops.Val.{Val}
 use Rattle.bv_expr.specs.Term.{Term}
 use Rattle.bv_expr.specs.Goal.{Binders, AreValues, IsGoal, Falsifies}
-use Rattle.bv_expr.specs.Propositional.{IsPropositional}
-use Rattle.bv_expr.proofs.Over.{truth_at}
-use Rattle.blast_goal.specs.Values.{bits_of}
-use Rattle.blast_goal.proofs.Falsifying.{edge-value}
+use Rattle.blast_goal.specs.Values.{input_bits, values_of}
 use Rattle.tseitin.specs.Clauses.{node_values}
 use Rattle.tseitin.proofs.Law.{satisfiable_exactly}
 use Rattle.goal_alone.specs.Formula.{goal_edge, goal_clauses}
-use Rattle.goal_alone.specs.Satisfying.{IsSatisfiable, IsFalsifiable, IsRefutation, cone_bits, values_of}
+use Rattle.goal_alone.specs.Satisfying.{IsSatisfiable, IsFalsifiable, IsRefutation, cone_bits}
 use Rattle.goal_alone.proofs.Once.{cone_extends}
-use Rattle.goal_alone.proofs.Reading.{are_values, same_truth}
-use Rattle.goal_alone.proofs.Agreeing.{goal_agrees}
+use Rattle.goal_alone.proofs.Reading.{are_values}
 
-module _ (binders : Binders) (hyps : List Term) (concl : Term) (goal : IsGoal binders hyps concl) (plain : IsPropositional hyps concl) where
-  -- the edge's value is that of the values that are read off bits
-  same_value : (bits : ℕ → ℕ → Bool) → value (bits_of (values_of binders bits)) (goal_edge hyps concl) ≡ value bits (goal_edge hyps concl)
-  same_value bits =
-      let values = values_of binders bits in
-      let are : AreValues binders values = are_values binders bits goal.sorts in
-      goal_agrees values bits (same_truth binders bits) hyps concl
-      (λ i d l. record { plain_truth = plain.hyps_are i d l; has = (truth_at binders values _ are (goal.hyps_fit i d l)).has })
-      record { plain_truth = plain.concl_is; has = (truth_at binders values concl are goal.concl_fits).has }
+-- the goal's edge is true exactly for the values that falsify the goal, and so for those that are read off any bits
+pub record IsEdgeOf (binders : Binders) (hyps : List Term) (concl : Term) : Type 0 where
+  pub of_values : (values : List Val) → AreValues binders values → IsTrue (value (input_bits values) (goal_edge hyps concl)) ↔ Falsifies hyps concl values
+  pub of_bits : (bits : ℕ → ℕ → Bool) → IsTrue (value bits (goal_edge hyps concl)) ↔ Falsifies hyps concl (values_of binders bits)
 
+module _ (binders : Binders) (hyps : List Term) (concl : Term) (goal : IsGoal binders hyps concl) (edge : IsEdgeOf binders hyps concl) where
   -- values that satisfy the clauses give values that falsify the goal
   pub falsified : (values : ℕ → Bool) → satisfies values (goal_clauses hyps concl) ≡ true → IsRefutation binders hyps concl (goal_edge hyps concl) values
   falsified values h =
-      let e = goal_edge hyps concl in
-      let bits = cone_bits e values in
-      let are : AreValues binders (values_of binders bits) = are_values binders bits goal.sorts in
-      let holds : value bits e ≡ true = (satisfiable_exactly e).only_where_true bits values (cone_extends e values) h in
-      (are, (edge-value binders hyps concl goal plain (values_of binders bits) are).0 (same_value bits ∙ holds))
+      let bits = cone_bits (goal_edge hyps concl) values in
+      let holds : value bits (goal_edge hyps concl) ≡ true = (satisfiable_exactly (goal_edge hyps concl)).only_where_true bits values (cone_extends (goal_edge hyps concl) values) h in
+      (are_values binders bits goal.sorts, (edge.of_bits bits).0 holds)
 
   -- values that falsify the goal give values that satisfy the clauses
-  pub satisfied : (values : List Val) → AreValues binders values → Falsifies hyps concl values → satisfies (node_values (bits_of values) (goal_edge hyps concl)) (goal_clauses hyps concl) ≡ true
-  satisfied values are false_at = (satisfiable_exactly (goal_edge hyps concl)).where_true (bits_of values) ((edge-value binders hyps concl goal plain values are).1 false_at)
+  pub satisfied : (values : List Val) → AreValues binders values → Falsifies hyps concl values → satisfies (node_values (input_bits values) (goal_edge hyps concl)) (goal_clauses hyps concl) ≡ true
+  satisfied values are false_at = (satisfiable_exactly (goal_edge hyps concl)).where_true (input_bits values) ((edge.of_values values are).1 false_at)
 
   -- the same of clauses that are the goal's
   pub satisfiable_where_falsifiable : (cs : List (List Literal)) → cs ≡ goal_clauses hyps concl → IsSatisfiable cs ↔ IsFalsifiable binders hyps concl
   satisfiable_where_falsifiable cs are = (
     λ some. let p = falsified some.0 (rw are at some.1) in (_, p.0, p.1),
-    λ some. (node_values (bits_of some.0) (goal_edge hyps concl), rw are (satisfied some.0 some.1 some.2)),
+    λ some. (node_values (input_bits some.0) (goal_edge hyps concl), rw are (satisfied some.0 some.1 some.2)),
   )
 
   pub falsified_at : (cs : List (List Literal)) → cs ≡ goal_clauses hyps concl → (values : ℕ → Bool) → satisfies values cs ≡ true → IsRefutation binders hyps concl (goal_edge hyps concl) values

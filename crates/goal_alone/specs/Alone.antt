@@ -4,6 +4,7 @@ use Rattle.gate_shape.specs.Edge.{Edge}
 use Rattle.bv_expr.specs.declared.ops.Val.{Val}
 use Rattle.bv_expr.specs.Term.{Term}
 use Rattle.bv_expr.specs.Goal.{Binders}
+use Rattle.blast_goal.specs.Values.{values_of}
 use Rattle.sat_form.specs.Literals.{Literal}
 use Rattle.sat_form.specs.Truth.{value_of}
 use Rattle.search_learn.specs.declared.Turn.{Turn}
@@ -13,7 +14,7 @@ use Rattle.lrat_lines.specs.Lines.{written}
 use Rattle.lrat_trim.specs.Trim.{trim}
 use Rattle.goal_alone.specs.Ends.{Made, TooDeep, TooMany}
 use Rattle.goal_alone.specs.Formula.{goal_edge, goal_end, goal_clauses, goal_variables}
-use Rattle.goal_alone.specs.Satisfying.{cone_bits, values_of}
+use Rattle.goal_alone.specs.Satisfying.{cone_bits}
 
 -- A certificate's text, values of the goal's variables, the steps spent, or why there are no clauses.
 pub data Answer : Type 0 where

@@ -1,14 +1,11 @@
 -- From values of the clauses' variables to values of the goal's variables, and when there are any that satisfy or falsify.
-use Rattle.std.specs.Prelude.{◌≡◌, ℕ, ◌+◌, Bool, true, false, ◌&&◌, nat_eq, List, [], ◌∷◌, map}
-use Rattle.std.specs.List.{list_any, enumerate_from, range_with_len}
+use Rattle.std.specs.Prelude.{◌≡◌, ℕ, Bool, true, false, ◌&&◌, nat_eq, List}
+use Rattle.std.specs.List.{list_any, enumerate_from}
 use Rattle.gate_shape.specs.Edge.{Edge}
-use Rattle.bv_value.specs.Bits.{number_of}
-use Rattle.bv_expr.specs.declared.ops.Sort.{Sort}
-use Rattle.bv_expr.specs.declared.ops.Sort.TheVariants as sort
 use Rattle.bv_expr.specs.declared.ops.Val.{Val}
-use Rattle.bv_expr.specs.declared.ops.Val.TheVariants.{Truth, Vector}
 use Rattle.bv_expr.specs.Term.{Term}
 use Rattle.bv_expr.specs.Goal.{Binders, AreValues, Falsifies}
+use Rattle.blast_goal.specs.Values.{values_of}
 use Rattle.sat_form.specs.Literals.{Literal}
 use Rattle.sat_form.specs.Truth.{satisfies}
 use Rattle.cone_walk.specs.Cone.{cone_nodes}
@@ -36,20 +33,6 @@ node_bits nodes values k j = list_any (λ p. is_input k j p.1 && values p.0) (en
 -- the same for the cone of an edge
 abbrev pub cone_bits : Edge → (ℕ → Bool) → ℕ → ℕ → Bool
 cone_bits e values k j = node_bits (cone_nodes e) values k j
-
--- The value of a sort with these bits: a truth is bit 0, and a vector is the number that its bits write in base two.
-abbrev pub value_with : Sort → (ℕ → Bool) → Val
-value_with sort.Truth bits = Truth (bits 0)
-value_with (sort.Vector w) bits = Vector (record { width = w; number = number_of (map bits (range_with_len 0 w)) })
-
--- The values of the variables from variable k on.
-abbrev pub values_from : ℕ → Binders → (ℕ → ℕ → Bool) → List Val
-values_from k [] bits = []
-values_from k (b ∷ bs) bits = value_with b.1 (bits k) ∷ values_from (k + 1) bs bits
-
--- The value of each variable of a goal, by its sort.
-abbrev pub values_of : Binders → (ℕ → ℕ → Bool) → List Val
-values_of binders bits = values_from 0 binders bits
 
 -- Values that satisfy a goal's clauses give values that falsify the goal.
 abbrev pub IsRefutation : Binders → List Term → Term → Edge → (ℕ → Bool) → Type 0

@@ -5,7 +5,8 @@ ghost use Rattle.std.specs.List.{range_with_len};
 ghost use Rattle.bv_value.specs.Bits.{number_of};
 ghost use Rattle.bv_expr.specs.Goal.{is_sort};
 ghost use Rattle.sat_form.specs.Truth.{value_of};
-ghost use Rattle.goal_alone.specs.Satisfying.{is_input, node_bits, value_with, values_of};
+ghost use Rattle.blast_goal.specs.Values.{value_with, values_of};
+ghost use Rattle.goal_alone.specs.Satisfying.{is_input, node_bits};
 ghost use Rattle.goal_alone.specs.Inputs.{has};
 
 use bv_expr::{Goal, Sort, Val};

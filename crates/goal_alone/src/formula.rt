@@ -1,6 +1,9 @@
 //! A goal's clauses. A goal whose circuit is too deep or too large has none, and is told so.
-ghost use Rattle.std.specs.Prelude.{◌≡◌, ◌↔◌, ℕ, Bool, true, IfOk, OnOk, IsErrOf};
-ghost use Rattle.bv_expr.specs.Propositional.{IsPropositional};
+ghost use Rattle.std.specs.Prelude.{◌≡◌, ◌↔◌, ℕ, Bool, List, true, IfOk, OnOk, IsErrOf, IsTrue};
+ghost use Rattle.bv_expr.specs.declared.ops.Val.{Val};
+ghost use Rattle.bv_expr.specs.Goal.{AreValues, Falsifies};
+ghost use Rattle.gate_shape.specs.Edge.{value};
+ghost use Rattle.blast_goal.specs.Values.{input_bits, values_of};
 ghost use Rattle.tseitin.specs.Clauses.{AreConeOf};
 ghost use Rattle.goal_alone.specs.Ends.{Made, TooDeep, TooMany};
 ghost use Rattle.gate_shape.specs.Builds.{OneEach, Stands};
@@ -64,12 +67,13 @@ fn stop_of(stop: GateStop) -> FormulaStop
 
 /// The gates of a goal and its edge, over a list of their own.
 fn circuit(alloc: Global, goal: &Goal) -> Result<(ListBuilder, Lit23), FormulaStop>
-    requires { IsPropositional goal.now.hyps goal.now.concl }
     ensures made { OnOk result (goal_end goal.now.hyps goal.now.concl ≡ Made) }
     ensures deep { IsErrOf result FormulaStop.Deep → goal_end goal.now.hyps goal.now.concl ≡ TooDeep }
     ensures large { IsErrOf result FormulaStop.Large → goal_end goal.now.hyps goal.now.concl ≡ TooMany }
     ensures stands { IfOk result (λ r. Stands (listed r.0) r.1 (goal_edge goal.now.hyps goal.now.concl)) }
     ensures once { IfOk result (λ r. OneEach (listed r.0)) }
+    ensures of_values { OnOk result ((values : List Val) → AreValues goal.now.binders values → IsTrue (value (input_bits values) (goal_edge goal.now.hyps goal.now.concl)) ↔ Falsifies goal.now.hyps goal.now.concl values) }
+    ensures of_bits { OnOk result ((bits : ℕ → ℕ → Bool) → IsTrue (value bits (goal_edge goal.now.hyps goal.now.concl)) ↔ Falsifies goal.now.hyps goal.now.concl (values_of goal.now.binders bits)) }
 {
     let mut gates = ListBuilder::new(alloc, MOST_GATES);
     let end = edge(alloc, &mut gates, goal);
@@ -88,7 +92,6 @@ fn circuit(alloc: Global, goal: &Goal) -> Result<(ListBuilder, Lit23), FormulaSt
 /// would be the 4,000,001st different one. Both yield to want of memory.
 /// Cost: O(n log n) in the goal's gates.
 pub fn formula_of(alloc: Global, goal: &Goal) -> Result<Formula, FormulaStop>
-    requires { IsPropositional goal.now.hyps goal.now.concl }
     ensures made { OnOk result (goal_end goal.now.hyps goal.now.concl ≡ Made) }
     ensures deep { IsErrOf result FormulaStop.Deep → goal_end goal.now.hyps goal.now.concl ≡ TooDeep }
     ensures large { IsErrOf result FormulaStop.Large → goal_end goal.now.hyps goal.now.concl ≡ TooMany }

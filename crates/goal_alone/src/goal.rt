@@ -1,7 +1,6 @@
 //! From a goal to its reply.
 ghost use Rattle.std.specs.Prelude.{◌≡◌, ◌≤◌, ◌^◌, ℕ, length, IfOk};
 ghost use Rattle.bv_expr.specs.Goal.{AreValues, Falsifies, IsValid};
-ghost use Rattle.bv_expr.specs.Propositional.{IsPropositional};
 ghost use Rattle.tseitin.specs.Clauses.{AreConeOf};
 ghost use Rattle.lrat_lines.specs.Replay.{TextComesTo};
 ghost use Rattle.lrat_lines.specs.Replay.Verdict.{Accepted};
@@ -18,7 +17,6 @@ use std::alloc::{AllocError, Global};
 
 /// The reply to a goal that has clauses, or want of memory for the search.
 fn searched(alloc: Global, goal: &Goal, formula: &Formula, budget: u64) -> Result<Reply, AllocError>
-    requires propositional { IsPropositional goal.now.hyps goal.now.concl }
     requires budget { budget ≤ 2 ^ 62 }
     requires cone { AreConeOf (goal_edge goal.now.hyps goal.now.concl) formula.now.cone.nodes.items formula.now.cone.root }
     requires clauses { formula.now.cnf.clauses ≡ goal_clauses goal.now.hyps goal.now.concl }
@@ -40,8 +38,7 @@ fn searched(alloc: Global, goal: &Goal, formula: &Formula, budget: u64) -> Resul
 /// and may come in place of every other reply.
 /// Takes time by the goal's gates, O(n log n), and `budget` + 1 steps of the search at most.
 pub fn alone(alloc: Global, goal: &Goal, budget: u64) -> Reply
-    requires propositional { IsPropositional goal.now.hyps goal.now.concl }
-    requires budget { budget ≤ 2 ^ 62 }
+    requires { budget ≤ 2 ^ 62 }
     ensures answer { IsAnswer result (answer goal.now.binders goal.now.hyps goal.now.concl budget) }
     ensures proved { IfProved result (λ _. IsValid goal.now.binders goal.now.hyps goal.now.concl) }
     ensures refuted { IfFalse result (λ values. AreValues goal.now.binders values × Falsifies goal.now.hyps goal.now.concl values) }

@@ -1,7 +1,7 @@
 //! What the end of a search over a goal's clauses means for the goal: one place for every caller that searches.
-ghost use Rattle.std.specs.Prelude.{◌≡◌, ◌≤◌, ℕ, length, IfOk};
+ghost use Rattle.std.specs.Prelude.{◌≤◌, ℕ, All, length, IfOk};
 ghost use Rattle.bv_expr.specs.Goal.{AreValues, Falsifies, IsValid};
-ghost use Rattle.bv_expr.specs.Propositional.{IsPropositional};
+ghost use Rattle.bv_expr.specs.Sorts.{IsExpr};
 ghost use Rattle.tseitin.specs.Clauses.{AreConeOf};
 ghost use Rattle.lrat_lines.specs.Replay.{TextComesTo};
 ghost use Rattle.lrat_lines.specs.Replay.Verdict.{Accepted};
@@ -13,11 +13,20 @@ ghost use Rattle.goal_alone.specs.Told.{IfFalse, IfProved, IsAnswer};
 use crate::certificate::certificate;
 use crate::counterexample::counterexample;
 use crate::reply::Reply;
-use bv_expr::Goal;
+use bv_expr::{Expr, Goal};
 use cdcl_solver::Search;
 use cone_walk::Cone;
 use search_learn::Turn;
 use std::alloc::{AllocError, Global};
+
+/// Serves the proof alone: by its type each term has what the law of the goal's edge needs of it.
+fn see_terms(terms: &[Expr])
+    ensures { All IsExpr terms.now }
+{
+    for term in terms {
+        let _depth = term.depth();
+    }
+}
 
 /// The reply that the end of a search means, or want of memory.
 fn meant(
@@ -27,7 +36,6 @@ fn meant(
     search: &Search,
     end: &Turn,
 ) -> Result<Reply, AllocError>
-    requires propositional { IsPropositional goal.now.hyps goal.now.concl }
     requires cone { AreConeOf (goal_edge goal.now.hyps goal.now.concl) cone.now.nodes.items cone.now.root }
     requires ended { HasEnded (goal_variables goal.now.hyps goal.now.concl) (goal_clauses goal.now.hyps goal.now.concl) search.now end.now }
     ensures answer { IfOk result (λ reply. IsAnswer reply (solved goal.now.binders goal.now.hyps goal.now.concl search.now.budget)) }
@@ -35,6 +43,8 @@ fn meant(
     ensures refuted { IfOk result (λ reply. IfFalse reply (λ values. AreValues goal.now.binders values × Falsifies goal.now.hyps goal.now.concl values)) }
     ensures accepted { IfOk result (λ reply. IfProved reply (λ text. (most : ℕ) → length text ≤ most → TextComesTo (goal_clauses goal.now.hyps goal.now.concl) most text Accepted)) }
 {
+    see_terms(goal.hyps.as_slice());
+    let _depth = goal.concl.depth();
     if let Some(values) = search.values() {
         return Ok(Reply::False(counterexample(alloc, goal, cone, values)?));
     }
@@ -50,7 +60,6 @@ fn meant(
 /// `Memory` is want of memory, and may come in place of every other reply.
 /// Takes time by the size of the log, or by the nodes of the cone and the bits of the variables times the true inputs.
 pub fn reply_of(alloc: Global, goal: &Goal, cone: &Cone, search: &Search, end: &Turn) -> Reply
-    requires propositional { IsPropositional goal.now.hyps goal.now.concl }
     requires cone { AreConeOf (goal_edge goal.now.hyps goal.now.concl) cone.now.nodes.items cone.now.root }
     requires ended { HasEnded (goal_variables goal.now.hyps goal.now.concl) (goal_clauses goal.now.hyps goal.now.concl) search.now end.now }
     ensures answer { IsAnswer result (solved goal.now.binders goal.now.hyps goal.now.concl search.now.budget) }

@@ -1,7 +1,6 @@
 //! The clauses of the goals `true` and `false` and the replies to them with ample memory, and that goals and replies may
 //! cross threads.
 ghost use Rattle.std.specs.Prelude.{◌≡◌, ◌≤◌, ◌^◌, IfOk};
-ghost use Rattle.bv_expr.specs.Propositional.{IsPropositional};
 ghost use Rattle.bv_expr.specs.Term.{truth};
 
 use crate::{Reply, alone, formula_of};
@@ -23,22 +22,10 @@ fn truth(value: bool) -> Result<Expr, Fail>
 }
 
 /// The goal that a truth holds.
-fn goal(alloc: Global, value: bool) -> Result<Goal, Fail>
-    ensures { IfOk result (λ goal. IsPropositional goal.hyps goal.concl) }
-{
+fn goal(alloc: Global, value: bool) -> Result<Goal, Fail> {
     let name = Name::from_string("example".to_owned(alloc)?);
-    let goal = Goal::new(
-        name,
-        Items::new(alloc),
-        Items::new(alloc),
-        truth(value)?,
-        None,
-    );
-    if goal.is_propositional() {
-        Ok(goal)
-    } else {
-        Err(Fail::new("a truth is propositional"))
-    }
+    let concl = truth(value)?;
+    Ok(Goal::new(name, Items::new(alloc), Items::new(alloc), concl, None))
 }
 
 /// The text of the clauses of the goal that a truth holds.

@@ -1,5 +1,5 @@
 use Rattle.std.proofs.Common.{◌≡◌, ◌<◌, ◌++◌, ◌∷◌, [], ◌∙◌, ap₂, length}
-use Rattle.goal_alone.specs.Satisfying.{value_with}
+use Rattle.blast_goal.specs.Values.{value_with}
 use Rattle.goal_alone.specs.Inputs.{has}
 use Rattle.goal_alone.proofs.Numbers.{values_more}
 use Rattle.goal_alone.proofs.counterexample.counterexample.Goals as goal

@@ -1,5 +1,5 @@
 use Rattle.std.proofs.Common.{◌≡◌, take}
-use Rattle.goal_alone.specs.Satisfying.{values_of}
+use Rattle.blast_goal.specs.Values.{values_of}
 use Rattle.goal_alone.specs.Inputs.{has}
 use Rattle.goal_alone.proofs.counterexample.counterexample.Given as goal
 

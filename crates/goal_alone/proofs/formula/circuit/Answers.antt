@@ -29,3 +29,9 @@ returns-in-Err-clause-large c = λ e.
     let P : GateStop → Type 0 = λ s. Builds {T = Literal} {E = Edge} note_new Stands (listed c.new-gates.result) (listed c.edge-end.new.b) (Err s) row in
     ends_full 4000000 c.new-gates.result c.edge-end.new.b row c.new-gates.ensures (subst P (c.stop_of.ensures.large is) c.in-Err.ensures.built)
     (omega (arith, c.len-kept.ensures.count, c.len-kept.ensures.within))
+
+pub returns-in-Ok-clause-of_values : goal.returns-in-Ok-clause-of_values
+returns-in-Ok-clause-of_values c = λ values are. rw c.in-Ok.ensures.built.outcome.0.stands_for at (c.in-Ok.ensures.value values are)
+
+pub returns-in-Ok-clause-of_bits : goal.returns-in-Ok-clause-of_bits
+returns-in-Ok-clause-of_bits c = λ bits. rw c.in-Ok.ensures.built.outcome.0.stands_for at (c.in-Ok.ensures.read bits)

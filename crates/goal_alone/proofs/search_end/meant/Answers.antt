@@ -9,9 +9,17 @@ use Rattle.lrat_trim.specs.Trim.{trim}
 use Rattle.cdcl_solver.specs.Progress.{Progress}
 use Rattle.goal_alone.specs.Formula.{goal_edge}
 use Rattle.goal_alone.proofs.Ending.{clauses_are, whole, at_sat, at_unsat, at_budget, enough, refutes}
-use Rattle.goal_alone.proofs.Satisfied.{falsified, satisfiable_where_falsifiable}
+use Rattle.bv_expr.specs.Term.{Term}
+use Rattle.bv_expr.specs.Goal.{Binders, IsGoal}
+use Rattle.bv_expr.specs.Sorts.{IsExpr}
+use Rattle.std.specs.Prelude.{All}
+use Rattle.blast_goal.proofs.Falsifying.{edge-value, edge-read}
+use Rattle.goal_alone.proofs.Satisfied.{IsEdgeOf, falsified, satisfiable_where_falsifiable}
 use Rattle.goal_alone.proofs.Telling.{valid_without_values}
 use Rattle.goal_alone.proofs.search_end.meant.Goals as goal
+
+law : (binders : Binders) (hyps : List Term) (concl : Term) → IsGoal binders hyps concl → All IsExpr hyps → IsExpr concl → IsEdgeOf binders hyps concl
+law binders hyps concl goal exprs expr = record { of_values = edge-value binders hyps concl goal exprs expr; of_bits = edge-read binders hyps concl goal exprs expr }
 
 pub counterexample-requires : goal.counterexample-requires
 counterexample-requires c =
@@ -31,7 +39,7 @@ returns-in-Some-clause-refuted c =
     let values = value_of c.in-Some.values.now in
     let same = clauses_are g.binders g.hyps g.concl c.args.search.now c.args.end.now c.requires.ended in
     refutes g.binders g.hyps g.concl (goal_edge g.hyps g.concl) c.args.cone.now.nodes.items values c.in_ok-counterexample.field-0.items c.requires.cone.nodes_are c.in_ok-counterexample.ensures
-    (falsified g.binders g.hyps g.concl g.fits c.requires.propositional values (sym (ap (satisfies values) same) ∙ c.in-Some.ensures.satisfied))
+    (falsified g.binders g.hyps g.concl g.fits (law g.binders g.hyps g.concl g.fits (rw c.as_slice.ensures at c.see_terms.ensures) c.depth-depth.ensures.expr) values (sym (ap (satisfies values) same) ∙ c.in-Some.ensures.satisfied))
 
 pub returns-in_ok-certificate-in-Unsat-clause-answer : goal.returns-in_ok-certificate-in-Unsat-clause-answer
 returns-in_ok-certificate-in-Unsat-clause-answer c =
@@ -43,7 +51,7 @@ returns-in_ok-certificate-in-Unsat-clause-proved c =
     let g = c.args.goal.now in
     let s = c.args.search.now in
     let same = clauses_are g.binders g.hyps g.concl s c.args.end.now c.requires.ended in
-    valid_without_values g.binders g.hyps g.concl s.clauses (satisfiable_where_falsifiable g.binders g.hyps g.concl g.fits c.requires.propositional s.clauses same)
+    valid_without_values g.binders g.hyps g.concl s.clauses (satisfiable_where_falsifiable g.binders g.hyps g.concl g.fits (law g.binders g.hyps g.concl g.fits (rw c.as_slice.ensures at c.see_terms.ensures) c.depth-depth.ensures.expr) s.clauses same)
     (checks_refutes s.clauses (trim (length s.clauses) s.machine.log) c.in_ok-certificate-in-Unsat.ensures.checks)
 
 pub returns-in_ok-certificate-in-Unsat-clause-accepted : goal.returns-in_ok-certificate-in-Unsat-clause-accepted
