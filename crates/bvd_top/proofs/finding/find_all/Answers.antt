@@ -23,8 +23,8 @@ names-preserved g c =
           c.names.invariant.read c.names.invariant.files c.names.invariant.missing c.in_ok-stated.ensures.missing c.in_ok-stated.ensures.stated
           (names_next (λ n. n.now) c.args.names.now c.names.name-index d c.names-test.true) shown;
       count = omega (arith, c.names.invariant.count, ap length c.in_ok-keep.ensures, length-append c.names.reads.items (read ∷ []));
-      small = subst (All S) (sym c.in_ok-keep.ensures) (All-push S c.names.reads.items read c.names.invariant.small c.in_ok-stated.ensures.small);
-      decidable = subst (All P) (sym c.in_ok-keep.ensures) (All-push P c.names.reads.items read c.names.invariant.decidable c.in_ok-stated.ensures.decidable);
+      small = subst (All S) (sym {A = List Read} c.in_ok-keep.ensures) (All-push S c.names.reads.items read c.names.invariant.small c.in_ok-stated.ensures.small);
+      decidable = subst (All P) (sym {A = List Read} c.in_ok-keep.ensures) (All-push P c.names.reads.items read c.names.invariant.decidable c.in_ok-stated.ensures.decidable);
       files = c.in_ok-stated.ensures.files ∙ c.names.invariant.files;
       faults = c.in_ok-stated.ensures.cause.spared (λ failed. cc) ∙ c.names.invariant.faults;
       missing = omega (arith, c.in_ok-stated.ensures.missing, c.names.invariant.missing);
