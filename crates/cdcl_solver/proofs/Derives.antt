@@ -1,19 +1,18 @@
 -- The log of the machine is one whose lines follow from the clauses before them, so that the trimmed lines check.
-use Rattle.std.proofs.Common.{◌≡◌, ◌≢◌, ℕ, zero, suc, ◌+◌, ◌<◌, ◌≤◌, Bool, true, false, ◌&&◌, cond, nat_eq, nat_lt, List, [], ◌∷◌, ◌++◌, length, map, refl, ap, sym, ◌∙◌, subst, arith, length-append, inl, inr}
+use Rattle.std.proofs.Common.{◌≡◌, ◌≢◌, ℕ, zero, suc, ◌+◌, ◌≤◌, Bool, true, false, cond, nat_eq, List, [], ◌∷◌, ◌++◌, length, map, refl, ap, sym, ◌∙◌, subst, arith, inl, inr}
 use Rattle.std.specs.Prelude.{Some, None}
 use Rattle.std.specs.List.{find}
-use Rattle.std.specs.Option.{option_map, option_map_or, option_or}
+use Rattle.std.specs.Option.{option_map, option_map_or}
 use Rattle.std.specs.declared.option.Option.{Option}
 use Rattle.std.proofs.lemmas.Grind.{common_steps}
 use Rattle.std.proofs.lemmas.List.{append-nil}
-use Rattle.std.proofs.lemmas.List.Folds.{find-append}
 use Rattle.sat_form.specs.Literals.{Literal, member, negate}
 use Rattle.sat_form.specs.Log.{Logged}
 use Rattle.sat_form.specs.Assignment.{clause_false}
 use Rattle.search_learn.specs.declared.Turn.TheVariants.{More, Unsat}
-use Rattle.search_learn.specs.Trail.{assigned, level}
-use Rattle.search_learn.specs.Analysis.{Lesson, lesson}
-use Rattle.search_learn.specs.Machine.{Clause, State, Moved, Machine, clause_at, false_clause, numbered, start, step, logged, next_id, after_move, advance, steps, machine}
+use Rattle.search_learn.specs.Trail.{assigned}
+use Rattle.search_learn.specs.Analysis.{Lesson}
+use Rattle.search_learn.specs.Machine.{Clause, State, Machine, clause_at, numbered, step, logged, next_id, after_move, advance, steps, machine}
 use Rattle.search_learn.proofs.Cases.{case_ended, steps_last}
 use Rattle.search_learn.proofs.Counted.{IsTaught, step_taught, run_logged}
 use Rattle.search_learn.proofs.Hints.{hints_earlier, rising_end}
@@ -21,16 +20,16 @@ use Rattle.search_learn.proofs.Keeps.{Kept, Rising}
 use Rattle.search_learn.proofs.Lessons.{found_here}
 use Rattle.search_learn.proofs.Reached.{reached_kept}
 use Rattle.search_learn.proofs.Runs.{is_more}
-use Rattle.lrat_lines.specs.Judge.{Clauses, Entry, Checks, add_clause, clause_of, given, given_from, take_hints}
+use Rattle.lrat_lines.specs.Judge.{Clauses, Checks, add_clause, clause_of, given, given_from, take_hints}
 use Rattle.lrat_lines.specs.Judge.Taken.{Conflict}
 use Rattle.lrat_trim.specs.Derived.{AreNumbered, AreDerived}
 use Rattle.lrat_trim.specs.Trim.{trim}
 use Rattle.lrat_trim.proofs.Derived.{clause_add, clause_first, trimmed_check}
-use Rattle.cdcl_solver.proofs.Finished.{Learns, step_learns, unsat_logged}
+use Rattle.cdcl_solver.proofs.Finished.{step_learns, unsat_logged}
 use Rattle.cdcl_solver.proofs.Finished.Learns.{nothing, last, another}
 use Rattle.cdcl_solver.proofs.Going.{inputs_steps}
 use Rattle.search_learn.specs.Engine.{Engine}
-use Rattle.sat_form.specs.Shape.{is_formula, variables_within}
+use Rattle.sat_form.specs.Shape.{variables_within}
 use Rattle.sat_form.proofs.Numbers.{eq_not_below}
 use Rattle.sat_form.proofs.Sets.{absurd_bool, both}
 use Rattle.lrat_trim.specs.Derivation.{Derivation, IsFinished, are_earlier}

@@ -1,5 +1,5 @@
 -- The log of a search that ended with Unsat: its last line, and no other, is the empty clause.
-use Rattle.std.proofs.Common.{◌≡◌, ◌≢◌, ℕ, zero, suc, ◌+◌, ◌*◌, Bool, true, false, cond, nat_eq, nat_le, List, [], ◌∷◌, ◌++◌, refl, ap, sym, ◌∙◌, subst, ◌⊎◌, inl, inr}
+use Rattle.std.proofs.Common.{◌≡◌, ◌≢◌, ℕ, zero, suc, ◌+◌, ◌*◌, true, false, cond, nat_eq, nat_le, List, [], ◌∷◌, ◌++◌, refl, ap, sym, ◌∙◌, subst, inl, inr}
 use Rattle.std.specs.Prelude.{Some, None}
 use Rattle.std.specs.List.{range_with_len}
 use Rattle.std.specs.declared.option.Option.{Option}
@@ -7,8 +7,7 @@ use Rattle.std.proofs.lemmas.List.{append-nil}
 use Rattle.sat_form.specs.Literals.{Literal}
 use Rattle.sat_form.specs.Log.{Logged}
 use Rattle.search_learn.specs.declared.Step.{Step}
-use Rattle.search_learn.specs.declared.Turn.{Turn}
-use Rattle.search_learn.specs.declared.Turn.TheVariants.{More, Sat, Unsat, Budget}
+use Rattle.search_learn.specs.declared.Turn.TheVariants.{More, Unsat}
 use Rattle.search_learn.specs.Luby.{luby}
 use Rattle.search_learn.specs.Trail.{level, cut, unit_literal, is_assigned}
 use Rattle.search_learn.specs.Analysis.{Lesson, lesson}

@@ -1,7 +1,7 @@
 -- A learnt clause checks by its hints in trail order.
-use Rattle.std.proofs.Common.{◌≡◌, ◌≢◌, ℕ, Bool, true, false, not, ◌&&◌, ◌||◌, cond, List, [], ◌∷◌, ◌++◌, refl, ap, sym, ◌∙◌, map, ◌⊎◌, inl, inr}
-use Rattle.std.specs.Prelude.{Some, None}
-use Rattle.sat_form.specs.Literals.{Literal, negate, same_literal, member, without, put_all, set_of}
+use Rattle.std.proofs.Common.{◌≡◌, ◌≢◌, ℕ, true, false, ◌||◌, cond, List, [], ◌∷◌, ◌++◌, refl, ap, sym, ◌∙◌, map, ◌⊎◌, inl, inr}
+use Rattle.std.specs.Prelude.{Some}
+use Rattle.sat_form.specs.Literals.{Literal, negate, same_literal, member, without, set_of}
 use Rattle.sat_form.specs.Assignment.{is_true, is_false, clause_false, unit_literal}
 use Rattle.search_learn.specs.declared.Step.{Step}
 use Rattle.search_learn.specs.Analysis.{Resolved, is_resolved, resolve_if, resolve_next, resolve_back, lesson}
@@ -10,7 +10,7 @@ use Rattle.search_learn.specs.Rule.{Continues, IsTrail}
 use Rattle.lrat_lines.specs.Judge.{Clauses, clause_of, Taken, take_hints, take_clause, take_unit}
 use Rattle.lrat_lines.specs.Judge.Taken.{Conflict, Units, Stop}
 use Rattle.search_learn.proofs.Entries.{AreReasoned, assigned_more, assigned_last}
-use Rattle.sat_form.proofs.Sets.{both, neither, one_of, decided, either_left, either_right, same_is, same_itself, all_but, all_put_all, all_weaker, unit_of, false_more, negation_false, member_all, member_of_unit, member_without, without_itself, member_put_all, others_false, true_negated, false_negated, negate_twice}
+use Rattle.sat_form.proofs.Sets.{neither, one_of, decided, same_is, all_but, all_put_all, all_weaker, unit_of, false_more, negation_false, member_all, member_of_unit, member_without, without_itself, member_put_all, others_false, true_negated, false_negated, negate_twice}
 
 -- what a hint's clause makes of the hints behind it
 abbrev go_on : Clauses → List ℕ → Taken → Taken

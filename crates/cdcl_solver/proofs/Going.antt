@@ -1,11 +1,11 @@
 -- How a search goes on by a step.
-use Rattle.std.proofs.Common.{◌≡◌, ◌≢◌, ℕ, zero, suc, ◌+◌, ◌-◌, ◌*◌, ◌^◌, ◌<◌, ◌≤◌, Bool, true, false, ◌&&◌, cond, nat_eq, nat_le, nat_lt, List, [], ◌∷◌, ◌++◌, length, refl, ap, sym, ◌∙◌, subst, arith, inl, inr}
+use Rattle.std.proofs.Common.{◌≡◌, ◌≢◌, ℕ, zero, suc, ◌+◌, ◌-◌, ◌*◌, ◌≤◌, true, false, cond, nat_eq, nat_le, List, [], ◌∷◌, ◌++◌, length, refl, ap, sym, ◌∙◌, arith}
 use Rattle.std.specs.Prelude.{Some, None}
 use Rattle.std.specs.List.{range_with_len}
 use Rattle.std.specs.declared.option.Option.{Option}
 use Rattle.std.proofs.lemmas.List.{append-nil}
 use Rattle.sat_form.specs.Literals.{Literal}
-use Rattle.sat_form.specs.Shape.{is_formula, variables_within}
+use Rattle.sat_form.specs.Shape.{variables_within}
 use Rattle.sat_form.proofs.Sets.{both}
 use Rattle.search_learn.specs.declared.Step.{Step}
 use Rattle.search_learn.specs.declared.Turn.TheVariants.{More, Sat, Unsat, Budget}
@@ -15,7 +15,7 @@ use Rattle.search_learn.specs.Analysis.{Lesson, lesson}
 use Rattle.search_learn.specs.Engine.{Engine, stepped}
 use Rattle.search_learn.specs.Machine.{Clause, State, Moved, Machine, clause_at, false_clause, has_unit, is_sat, assign, propagate, propagate_one, choose, decide, conflict_with, after_lesson, add_lesson, count_conflict, quietly, step, step_from, step_if, move, logged, next_id, after_move, advance, steps, machine}
 use Rattle.search_learn.proofs.Cases.{steps_last, case_ended}
-use Rattle.search_learn.proofs.Counted.{IsTaught, step_taught, run_logged}
+use Rattle.search_learn.proofs.Counted.{step_taught, run_logged}
 use Rattle.search_learn.proofs.Hints.{hints_earlier}
 use Rattle.search_learn.proofs.Reached.{reached_kept}
 use Rattle.lrat_trim.specs.Derivation.{Derivation, are_earlier}

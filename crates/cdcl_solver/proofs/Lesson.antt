@@ -1,5 +1,5 @@
 -- The clause that a conflict teaches checks by its hints.
-use Rattle.std.proofs.Common.{◌≡◌, ℕ, true, false, List, [], ◌∷◌, map, refl}
+use Rattle.std.proofs.Common.{◌≡◌, ℕ, true, false, List, [], map, refl}
 use Rattle.std.specs.Prelude.{Some}
 use Rattle.sat_form.specs.Literals.{Literal, negate, member, set_of}
 use Rattle.sat_form.specs.Assignment.{is_false}
@@ -7,7 +7,7 @@ use Rattle.search_learn.specs.declared.Step.{Step}
 use Rattle.search_learn.specs.Analysis.{lesson}
 use Rattle.search_learn.specs.Trail.{assigned, clause_false, level}
 use Rattle.search_learn.specs.Rule.{IsTrail}
-use Rattle.lrat_lines.specs.Judge.{Clauses, clause_of, Taken, take_hints}
+use Rattle.lrat_lines.specs.Judge.{Clauses, clause_of, take_hints}
 use Rattle.lrat_lines.specs.Judge.Taken.{Conflict}
 use Rattle.sat_form.proofs.Sets.{member_all, set_of_member}
 use Rattle.cdcl_solver.proofs.Follows.{lesson_checks}

@@ -5,7 +5,7 @@ use Rattle.search_learn.specs.Engine.{Engine, stepped}
 use Rattle.search_learn.specs.Machine.{Machine, advance, step}
 use Rattle.lrat_trim.specs.Derivation.{Derivation}
 use Rattle.cdcl_solver.specs.Kept.{IsRunning}
-use Rattle.cdcl_solver.specs.Notes.{lines_with, noted}
+use Rattle.cdcl_solver.specs.Notes.{lines_with}
 use Rattle.cdcl_solver.specs.Progress.{Progress}
 use Rattle.cdcl_solver.proofs.Going.{advanced, may_note, next_running}
 use Rattle.cdcl_solver.proofs.Search.advance.Goals as goal

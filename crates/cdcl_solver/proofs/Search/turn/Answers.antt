@@ -1,4 +1,4 @@
-use Rattle.std.proofs.Common.{◌≡◌, ◌≢◌, ◌+◌, ◌<◌, ◌≤◌, ◌∙◌, ap, sym, false, arith}
+use Rattle.std.proofs.Common.{◌≢◌, ◌+◌, ◌∙◌, ap, sym, arith}
 use Rattle.search_learn.specs.declared.Turn.TheVariants.{More}
 use Rattle.search_learn.specs.Machine.{advance}
 use Rattle.cdcl_solver.specs.Progress.{Progress, turned}

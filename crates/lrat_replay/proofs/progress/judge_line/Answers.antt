@@ -11,7 +11,7 @@ returns-in-Err-Bad c rest known = (c.args.number, Malformed, refl, malformed c.a
 
 pub returns-in-Refused : goal.returns-in-Refused
 returns-in-Refused c rest known =
-    let verdict = rw c.in-Refused.is at c.in_ok-cause.ensures in (
+    let verdict = rw c.in-Refused.is at c.in_ok-cause.ensures.judged in (
       c.args.number,
       Because (cause_shown c.in-Refused.cause),
       c.refused.ensures,
