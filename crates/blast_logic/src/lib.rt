@@ -13,7 +13,7 @@ mod truths;
 mod vectors;
 
 pub use choices::{choose, masked};
-pub use lists::{behind_copies, capped, copied, copies, joined, resized};
+pub use lists::{behind_copies, copied, copies, joined, resized};
 pub use truths::{
     implies, truth_and, truth_const, truth_eq, truth_if, truth_not, truth_or, truth_var, truth_xor,
 };

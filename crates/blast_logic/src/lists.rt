@@ -1,19 +1,13 @@
-//! Lists of literals that make no gate: one list behind another, and copies of a literal around a list.
+//! Lists of literals that make no gate: one list behind another, and copies of a literal around a list. Each is refused
+//! only for want of memory, and takes time by the length of what it answers.
 
-ghost use Rattle.std.specs.Prelude.{◌≡◌, ◌-◌, ◌++◌, length, min, replicate, take, MatchResult};
+ghost use Rattle.std.specs.Prelude.{◌≡◌, ◌-◌, ◌++◌, length, replicate, take, MatchResult};
 ghost use Rattle.gate_shape.specs.Builds.{IsMemory};
 
 use gate_shape::{GateStop, Lit23};
 use std::alloc::Global;
 
-/// A number of places, at most this many.
-pub fn capped(n: u128, most: usize) -> usize
-    ensures { result ≡ min n most }
-{
-    if n < most as u128 { n as usize } else { most }
-}
-
-/// The list itself.
+/// The list itself, in memory of its own.
 pub fn copied(alloc: Global, x: &[Lit23]) -> Result<Vec<Lit23>, GateStop>
     ensures { MatchResult result (λ v. v.items ≡ x.now) IsMemory }
 {

@@ -4,8 +4,9 @@ ghost use Rattle.std.specs.Prelude.{◌≡◌, length};
 ghost use Rattle.gate_shape.specs.Builds.{Meaning, AllKnown};
 
 use crate::{
-    and, choose, constant, implies, masked, not, or, truth_and, truth_const, truth_eq, truth_if,
-    truth_not, truth_or, truth_var, truth_xor, variable, xor,
+    and, behind_copies, choose, constant, copied, copies, implies, joined, masked, not, or,
+    resized, truth_and, truth_const, truth_eq, truth_if, truth_not, truth_or, truth_var, truth_xor,
+    variable, xor,
 };
 use bv_value::Bv;
 use gate_shape::{GateStop, ListBuilder, Lit23, input};
@@ -91,5 +92,25 @@ fn bits_of_a_variable(rt: HostRuntime) -> Result<(), Fail> {
         bits[..],
         [Lit23::new(129, false), Lit23::new(130, false)][..]
     );
+    Ok(())
+}
+
+/// Whether a call answered these literals.
+fn answers(answer: Result<Vec<Lit23>, GateStop>, bits: &[Lit23]) -> Result<bool, GateStop> {
+    let list = answer?;
+    Ok(list.as_slice() == bits)
+}
+
+/// Lists behind one another, and copies of a literal.
+#[test]
+fn lists_of_literals(rt: HostRuntime) -> Result<(), Fail> {
+    let alloc = rt.alloc();
+    let (no, yes) = (Lit23::new(0, false), Lit23::new(0, true));
+    assert!(rt; answers(copied(alloc, &[no, yes]), &[no, yes])?);
+    assert!(rt; answers(copies(alloc, yes, 2), &[yes, yes])?);
+    assert!(rt; answers(joined(alloc, &[no], &[yes, no]), &[no, yes, no])?);
+    assert!(rt; answers(behind_copies(alloc, no, 2, &[yes]), &[no, no, yes])?);
+    assert!(rt; answers(resized(alloc, &[no, yes], yes, 3), &[no, yes, yes])?);
+    assert!(rt; answers(resized(alloc, &[no, yes], yes, 1), &[no])?);
     Ok(())
 }

@@ -7,6 +7,7 @@
 #![tactic(auto)]
 
 mod parts;
+mod places;
 mod shifts;
 mod stages;
 #[cfg(test)]

@@ -9,7 +9,8 @@ ghost use Rattle.blast_logic.specs.Words.{word};
 ghost use Rattle.blast_logic.specs.Words.{bit_at, top_bit};
 ghost use Rattle.blast_shift.specs.Wires.{appended, extracted, with_width, sign_extended};
 
-use blast_logic::{capped, joined, resized};
+use crate::places::capped;
+use blast_logic::{joined, resized};
 use gate_shape::{Builder, GateStop, Lit23};
 use std::alloc::Global;
 

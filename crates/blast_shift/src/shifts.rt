@@ -7,7 +7,8 @@ ghost use Rattle.bv_value.specs.Operations as is;
 ghost use Rattle.blast_logic.specs.Words.{word};
 ghost use Rattle.blast_shift.specs.Wires.{shifted_left, shifted_right, shifted_right_signed, rotated_left, rotated_right};
 
-use blast_logic::{behind_copies, capped, joined, resized};
+use crate::places::capped;
+use blast_logic::{behind_copies, joined, resized};
 use gate_shape::{Builder, GateStop, Lit23};
 use std::alloc::Global;
 
