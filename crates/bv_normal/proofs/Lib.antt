@@ -15,3 +15,4 @@ pub mod Normalising
 pub mod Finding
 pub mod Making
 pub mod Goaling
+mod Examples

@@ -7,18 +7,19 @@ use Rattle.bv_expr.specs.declared.ops.Sort.TheVariants as sort
 use Rattle.bv_expr.specs.declared.ops.Unary.{Unary}
 use Rattle.bv_expr.specs.declared.ops.Binary.{Binary}
 use Rattle.bv_expr.specs.declared.ops.Binary.TheVariants as on
-use Rattle.bv_expr.specs.Meaning.{HasValues}
+use Rattle.bv_expr.specs.Meaning.{meaning, HasValues}
 use Rattle.bv_expr.specs.Term.{Term, constant, variable, truth, truth_variable, unary, binary, choice, truth_choice}
 use Rattle.bv_expr.specs.Sorts.{IsExpr, KeepsNumberBelow64, sort_of}
 use Rattle.bv_normal.specs.declared.rewrites.Rewrite.{Rewrite}
 use Rattle.bv_normal.specs.declared.rewrites.Operand.{Operand}
-use Rattle.bv_normal.specs.Constants.{width, number_like, is_constant}
+use Rattle.bv_normal.specs.Constants.{literal, width, number_like, is_constant}
 use Rattle.bv_normal.specs.Choices.{chosen}
 use Rattle.bv_normal.specs.Fitting.{first_fit}
 use Rattle.bv_normal.specs.Folding.{has_parts, has_constant_parts}
 use Rattle.bv_normal.specs.Normal.{rules, rewritten}
+use Rattle.bv_normal.specs.Parts.{choice_of}
 use Rattle.bv_normal.specs.Rewrites.{has_one_part, of_one, of_two}
-use Rattle.bv_normal.proofs.Finding.{found_rewritten, none_rewritten, choice_fit, truth_choice_fit}
+use Rattle.bv_normal.proofs.Finding.{constant_rewritten, found_rewritten, none_rewritten, choice_fit, truth_choice_fit}
 use Rattle.bv_normal.proofs.Keeping.{vectors_is}
 use Rattle.bv_normal.proofs.Normalising.{rewritten_ready}
 use Rattle.bv_normal.proofs.SafeFolding.{closed}
@@ -74,14 +75,25 @@ found_two op x y r e = found_rewritten (binary op x y) (of_two x y r) e
 pub two_ready : (op : Binary) (x y : Term) (r : Operand) → IsExpr (binary op x y) → first_fit rules (binary op x y) ≡ Some (of_two x y r) → IsExpr (of_two x y r)
 two_ready op x y r ex e = rewritten_ready (binary op x y) (of_two x y r) ex e
 
-pub choice_found : (c x y : Term) (b : Bool) → is_constant c && (is_constant x && is_constant y) ≡ false → Some (if b then x else y) ≡ chosen c x y → rewritten (choice c x y) ≡ (if b then x else y)
-choice_found c x y b e h = found_rewritten (choice c x y) (if b then x else y) (choice_fit c x y e ∙ sym h)
+choice_of_fit : (truths : Bool) (c x y : Term) → is_constant c && (is_constant x && is_constant y) ≡ false → first_fit rules (choice_of truths c x y) ≡ chosen c x y
+choice_of_fit true c x y e = truth_choice_fit c x y e
+choice_of_fit false c x y e = choice_fit c x y e
 
-pub choice_stays : (c x y : Term) → is_constant c && (is_constant x && is_constant y) ≡ false → None ≡ chosen c x y → rewritten (choice c x y) ≡ choice c x y
-choice_stays c x y e h = none_rewritten (choice c x y) (choice_fit c x y e ∙ sym h)
+pub choice_found : (truths : Bool) (c x y : Term) (b : Bool) → is_constant c && (is_constant x && is_constant y) ≡ false → Some (if b then x else y) ≡ chosen c x y
+    → rewritten (choice_of truths c x y) ≡ (if b then x else y)
+choice_found truths c x y b e h = found_rewritten (choice_of truths c x y) (if b then x else y) (choice_of_fit truths c x y e ∙ sym h)
 
-pub truth_choice_found : (c x y : Term) (b : Bool) → is_constant c && (is_constant x && is_constant y) ≡ false → Some (if b then x else y) ≡ chosen c x y → rewritten (truth_choice c x y) ≡ (if b then x else y)
-truth_choice_found c x y b e h = found_rewritten (truth_choice c x y) (if b then x else y) (truth_choice_fit c x y e ∙ sym h)
+pub choice_stays : (truths : Bool) (c x y : Term) → is_constant c && (is_constant x && is_constant y) ≡ false → None ≡ chosen c x y
+    → rewritten (choice_of truths c x y) ≡ choice_of truths c x y
+choice_stays truths c x y e h = none_rewritten (choice_of truths c x y) (choice_of_fit truths c x y e ∙ sym h)
 
-pub truth_choice_stays : (c x y : Term) → is_constant c && (is_constant x && is_constant y) ≡ false → None ≡ chosen c x y → rewritten (truth_choice c x y) ≡ truth_choice c x y
-truth_choice_stays c x y e h = none_rewritten (truth_choice c x y) (truth_choice_fit c x y e ∙ sym h)
+choice_parts : (truths : Bool) (c x y : Term) → is_constant c && (is_constant x && is_constant y) ≡ true → has_constant_parts (choice_of truths c x y) ≡ true
+choice_parts true c x y e = e
+choice_parts false c x y e = e
+
+pub closed_choice : (truths : Bool) (c x y : Term) → is_constant c && (is_constant x && is_constant y) ≡ true → HasValues [] (choice_of truths c x y)
+closed_choice truths c x y e = closed_values (choice_of truths c x y) (choice_parts truths c x y e)
+
+pub choice_evaluated : (truths : Bool) (c x y : Term) → is_constant c && (is_constant x && is_constant y) ≡ true
+    → rewritten (choice_of truths c x y) ≡ literal (meaning (choice_of truths c x y) [])
+choice_evaluated truths c x y e = constant_rewritten (choice_of truths c x y) (choice_parts truths c x y e)

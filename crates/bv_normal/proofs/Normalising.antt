@@ -11,6 +11,7 @@ use Rattle.bv_expr.specs.Meaning.{is_true, unary_value, binary_value, meaning, H
 use Rattle.bv_expr.specs.Goal.{IsValue, variables}
 use Rattle.bv_normal.specs.Fitting.{Rule, or_else, first_fit}
 use Rattle.bv_normal.specs.Normal.{rules, or_itself, rewritten, normal, MeansTheSame}
+use Rattle.bv_normal.specs.Parts.{choice_of}
 use Rattle.bv_normal.proofs.Sorting.{unary_part, binary_left, binary_right, three_first, three_second, three_third}
 use Rattle.bv_normal.proofs.Keeping.{Keeps, Fits, Safe, Over, keeps_itself, after, over_left, over_right, over_binary, over_three, over_choice}
 use Rattle.bv_normal.proofs.Knowing.{either_cases}
@@ -166,6 +167,10 @@ truth_choice_ready t c x y e ex =
     let here : IsExpr (truth_choice c x y) = rw e ex in
     let f = three_fit truth_choice_sort c x y here.sorted here.leaves in
     expr_again _ _ here (truth_choice_again c x y (normal c) (normal x) (normal y) (normal_keeps c f.first) (normal_keeps x f.second) (normal_keeps y f.third))
+
+pub choice_of_ready : (t : Term) (truths : Bool) (c x y : Term) → choice_of truths c x y ≡ t → IsExpr t → IsExpr (choice_of truths (normal c) (normal x) (normal y))
+choice_of_ready t true c x y e ex = truth_choice_ready t c x y e ex
+choice_of_ready t false c x y e ex = choice_ready t c x y e ex
 
 -- what the rules make of a term is one again
 pub rewritten_ready : (t u : Term) → IsExpr t → first_fit rules t ≡ Some u → IsExpr u

@@ -4,8 +4,9 @@ ghost use Rattle.std.specs.Prelude.{◌≡◌, ◌≤◌, [], IfOk};
 ghost use Rattle.bv_expr.specs.Meaning.{meaning, HasValues};
 ghost use Rattle.bv_expr.specs.Node.{term_of};
 ghost use Rattle.bv_expr.specs.Sorts.{IsExpr};
-ghost use Rattle.bv_expr.specs.Term.{unary, binary, choice, truth_choice};
+ghost use Rattle.bv_expr.specs.Term.{unary, binary};
 ghost use Rattle.bv_normal.specs.Constants as constant;
+ghost use Rattle.bv_normal.specs.Parts.{choice_of};
 ghost use Rattle.bv_normal.specs.Rewrites as rewrite;
 
 use crate::constants::width;
@@ -34,33 +35,43 @@ pub(crate) fn unary_built(alloc: Global, op: Unary, x: Expr) -> Result<Expr, All
     Ok(built(unary_node(op, x)))
 }
 
+// Two terms in memory of their own.
+fn boxed(alloc: Global, x: Expr, y: Expr) -> Result<(Box<Expr>, Box<Expr>), AllocError>
+    ensures left { IfOk result (λ b. b.0.value ≡ x) }
+    ensures right { IfOk result (λ b. b.1.value ≡ y) }
+{
+    let x = Box::new(alloc, x)?;
+    Ok((x, Box::new(alloc, y)?))
+}
+
 pub(crate) fn binary_built(alloc: Global, op: Binary, x: Expr, y: Expr) -> Result<Expr, AllocError>
     requires { IsExpr (binary op x y) }
     ensures { IfOk result (λ e. e ≡ binary op x y) }
 {
-    let x = Box::new(alloc, x)?;
-    let y = Box::new(alloc, y)?;
+    let (x, y) = boxed(alloc, x, y)?;
     Ok(built(binary_node(op, x, y)))
 }
 
-pub(crate) fn choice_built(alloc: Global, c: Expr, x: Expr, y: Expr) -> Result<Expr, AllocError>
-    requires { IsExpr (choice c x y) }
-    ensures { IfOk result (λ e. e ≡ choice c x y) }
+// A choice between truths or vectors.
+fn choice_node(truths: bool, c: Box<Expr>, x: Box<Expr>, y: Box<Expr>) -> Node
+    ensures { term_of result ≡ choice_of truths c.value x.value y.value }
 {
-    let c = Box::new(alloc, c)?;
-    let x = Box::new(alloc, x)?;
-    let y = Box::new(alloc, y)?;
-    Ok(built(Node::If(c, x, y)))
+    if truths { Node::TIf(c, x, y) } else { Node::If(c, x, y) }
 }
 
-pub(crate) fn truth_choice_built(alloc: Global, c: Expr, x: Expr, y: Expr) -> Result<Expr, AllocError>
-    requires { IsExpr (truth_choice c x y) }
-    ensures { IfOk result (λ e. e ≡ truth_choice c x y) }
+pub(crate) fn choice_built(
+    alloc: Global,
+    truths: bool,
+    c: Expr,
+    x: Expr,
+    y: Expr,
+) -> Result<Expr, AllocError>
+    requires { IsExpr (choice_of truths c x y) }
+    ensures { IfOk result (λ e. e ≡ choice_of truths c x y) }
 {
+    let (x, y) = boxed(alloc, x, y)?;
     let c = Box::new(alloc, c)?;
-    let x = Box::new(alloc, x)?;
-    let y = Box::new(alloc, y)?;
-    Ok(built(Node::TIf(c, x, y)))
+    Ok(built(choice_node(truths, c, x, y)))
 }
 
 // The constant of a bit vector.

@@ -13,8 +13,8 @@ use bv_expr::{Binary, Expr, Node, Shape, Unary, shape_of};
 pub(crate) enum Parts {
     Unary(Unary, Box<Expr>),
     Binary(Binary, Box<Expr>, Box<Expr>),
-    Choice(Box<Expr>, Box<Expr>, Box<Expr>),
-    TruthChoice(Box<Expr>, Box<Expr>, Box<Expr>),
+    /// A choice, and whether it is between truths.
+    Choice(bool, Box<Expr>, Box<Expr>, Box<Expr>),
 }
 
 // Whether the node has parts.
@@ -75,7 +75,7 @@ pub(crate) fn parts_of(node: Node) -> Parts
         Node::Extract(x, start, len) => Parts::Unary(Unary::Extract(start, len), x),
         Node::SetWidth(x, width) => Parts::Unary(Unary::SetWidth(width), x),
         Node::SignExtend(x, width) => Parts::Unary(Unary::SignExtend(width), x),
-        Node::If(c, x, y) => Parts::Choice(c, x, y),
-        Node::TIf(c, x, y) => Parts::TruthChoice(c, x, y),
+        Node::If(c, x, y) => Parts::Choice(false, c, x, y),
+        Node::TIf(c, x, y) => Parts::Choice(true, c, x, y),
     }
 }

@@ -2,15 +2,15 @@
 
 ghost use Rattle.std.specs.Prelude.{◌≡◌, ◌&&◌, false, true, IfOk, Some, option_map, if◌then◌else◌};
 ghost use Rattle.bv_expr.specs.Sorts.{IsExpr};
-ghost use Rattle.bv_expr.specs.Term.{unary, binary, choice, truth_choice};
+ghost use Rattle.bv_expr.specs.Term.{unary, binary};
 ghost use Rattle.bv_normal.specs.Constants.{is_constant};
 ghost use Rattle.bv_normal.specs.Fitting.{first_fit};
 ghost use Rattle.bv_normal.specs.Normal.{rules, rewritten};
+ghost use Rattle.bv_normal.specs.Parts.{choice_of};
 ghost use Rattle.bv_normal.specs.Rewrites.{of_one, of_two};
 
 use crate::building::{
-    binary_built, choice_built, evaluated, number_like, part, truth, truth_choice_built,
-    unary_built,
+    binary_built, choice_built, evaluated, number_like, part, truth, unary_built,
 };
 use crate::choices::chosen;
 use crate::comparisons::comparisons;
@@ -148,34 +148,24 @@ fn picked(first: bool, x: Expr, y: Expr) -> Expr
     if first { x } else { y }
 }
 
-// What becomes of a choice between normal vectors.
-#[tactic(auto, using(crate::proofs::Making::closed_values, crate::proofs::Finding::constant_rewritten, crate::proofs::Making::choice_found, crate::proofs::Making::choice_stays))]
-pub(crate) fn choice_step(alloc: Global, c: Expr, x: Expr, y: Expr) -> Result<Expr, AllocError>
-    requires { IsExpr (choice c x y) }
-    ensures { IfOk result (λ e. e ≡ rewritten (choice c x y)) }
+// What becomes of a choice of normal parts.
+#[tactic(auto, using(crate::proofs::Making::closed_choice, crate::proofs::Making::choice_evaluated, crate::proofs::Making::choice_found, crate::proofs::Making::choice_stays))]
+pub(crate) fn choice_step(
+    alloc: Global,
+    truths: bool,
+    c: Expr,
+    x: Expr,
+    y: Expr,
+) -> Result<Expr, AllocError>
+    requires { IsExpr (choice_of truths c x y) }
+    ensures { IfOk result (λ e. e ≡ rewritten (choice_of truths c x y)) }
 {
     if all_constants(&c, &x, &y) {
-        let node = choice_built(alloc, c, x, y)?;
+        let node = choice_built(alloc, truths, c, x, y)?;
         return Ok(evaluated(&node));
     }
     match chosen(&c, &x, &y) {
         Some(first) => Ok(picked(first, x, y)),
-        None => choice_built(alloc, c, x, y),
-    }
-}
-
-// What becomes of a choice between normal truths.
-#[tactic(auto, using(crate::proofs::Making::closed_values, crate::proofs::Finding::constant_rewritten, crate::proofs::Making::truth_choice_found, crate::proofs::Making::truth_choice_stays))]
-pub(crate) fn truth_choice_step(alloc: Global, c: Expr, x: Expr, y: Expr) -> Result<Expr, AllocError>
-    requires { IsExpr (truth_choice c x y) }
-    ensures { IfOk result (λ e. e ≡ rewritten (truth_choice c x y)) }
-{
-    if all_constants(&c, &x, &y) {
-        let node = truth_choice_built(alloc, c, x, y)?;
-        return Ok(evaluated(&node));
-    }
-    match chosen(&c, &x, &y) {
-        Some(first) => Ok(picked(first, x, y)),
-        None => truth_choice_built(alloc, c, x, y),
+        None => choice_built(alloc, truths, c, x, y),
     }
 }

@@ -6,11 +6,12 @@ ghost use Rattle.bv_expr.specs.Term.{depth as depth_of};
 ghost use Rattle.bv_normal.specs.Normal.{normal as normal_form, MeansTheSame};
 
 use crate::parts::{Parts, has_parts, parts_of};
-use crate::steps::{binary_step, choice_step, truth_choice_step, unary_step};
+use crate::steps::{binary_step, choice_step, unary_step};
 use bv_expr::Expr;
 use std::alloc::{AllocError, Global};
 
 // The normal form, parts first.
+#[cycle(normalised)]
 #[tactic(auto, using(crate::proofs::Finding::leaf_normal), unfolding(crate::specs::Normal::normal))]
 fn normalised(alloc: Global, expr: Expr) -> Result<Expr, AllocError>
     ensures { IfOk result (λ e. e ≡ normal_form expr) }
@@ -24,23 +25,25 @@ fn normalised(alloc: Global, expr: Expr) -> Result<Expr, AllocError>
             unary_step(alloc, op, part)
         }
         Parts::Binary(op, x, y) => {
-            let left = normalised(alloc, Box::into_inner(x))?;
-            let right = normalised(alloc, Box::into_inner(y))?;
+            let (left, right) = both_normalised(alloc, x, y)?;
             binary_step(alloc, op, left, right)
         }
-        Parts::Choice(c, x, y) => {
+        Parts::Choice(truths, c, x, y) => {
+            let (yes, no) = both_normalised(alloc, x, y)?;
             let test = normalised(alloc, Box::into_inner(c))?;
-            let yes = normalised(alloc, Box::into_inner(x))?;
-            let no = normalised(alloc, Box::into_inner(y))?;
-            choice_step(alloc, test, yes, no)
-        }
-        Parts::TruthChoice(c, x, y) => {
-            let condition = normalised(alloc, Box::into_inner(c))?;
-            let first = normalised(alloc, Box::into_inner(x))?;
-            let second = normalised(alloc, Box::into_inner(y))?;
-            truth_choice_step(alloc, condition, first, second)
+            choice_step(alloc, truths, test, yes, no)
         }
     }
+}
+
+// The normal forms of two terms.
+#[cycle(normalised)]
+fn both_normalised(alloc: Global, x: Box<Expr>, y: Box<Expr>) -> Result<(Expr, Expr), AllocError>
+    ensures left { IfOk result (λ forms. forms.0 ≡ normal_form x.value) }
+    ensures right { IfOk result (λ forms. forms.1 ≡ normal_form y.value) }
+{
+    let x = normalised(alloc, Box::into_inner(x))?;
+    Ok((x, normalised(alloc, Box::into_inner(y))?))
 }
 
 /// The normal form of a term, which is used up: at each node, parts first and from left to right, the first rule of
