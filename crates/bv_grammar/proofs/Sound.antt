@@ -10,9 +10,9 @@ use Rattle.bv_grammar.specs.declared.words.Fixity.{Fixity}
 use Rattle.bv_grammar.specs.declared.stack.Step.{Step}
 use Rattle.bv_grammar.specs.declared.stack.Step.TheVariants.{Took, Passed, Failed}
 use Rattle.bv_grammar.specs.Operators.{prefix_level, fixity_of, when_fits}
-use Rattle.bv_grammar.specs.Grammar.{terminal_of, Next, is_word, operator_on, Symbol, terminal, unless, items, path, dotted, paths, part, binders, names, bound, sort, proof, intro, separator, tactic, term, tail, call, methods, more_methods, arguments, dots, atom, literal, closing, Rule, Begins, fitting, IsConstant, is_true, is_false, is_true_proposition, is_false_proposition}
+use Rattle.bv_grammar.specs.Grammar.{terminal_of, Next, is_word, operator_on, Symbol, terminal, unless, items, path, dotted, paths, part, binders, names, brace_names, bound, sort, proof, intro, separator, tactic, term, tail, call, methods, more_methods, arguments, dots, atom, literal, closing, Rule, Begins, fitting, IsConstant, is_true, is_false, is_true_proposition, is_false_proposition}
 use Rattle.bv_grammar.specs.Grammar as g
-use Rattle.bv_grammar.specs.Moves.{Move, took, passed, failed, before, items_move, part_move, path_move, dotted_move, paths_move, binders_move, names_move, sort_move, proof_move, intro_move, separator_move, tactic_move, atom_move, literal_move, closing_move, methods_move, dots_move, arguments_move, more_methods_move, call_move, operand_move, term_move, bound_move, operator_move, tail_move}
+use Rattle.bv_grammar.specs.Moves.{Move, took, passed, failed, before, items_move, part_move, path_move, dotted_move, paths_move, binders_move, names_move, brace_names_move, sort_move, proof_move, intro_move, separator_move, tactic_move, atom_move, literal_move, closing_move, methods_move, dots_move, arguments_move, more_methods_move, call_move, operand_move, term_move, bound_move, operator_move, tail_move}
 use Rattle.bv_grammar.proofs.Place.{Leads, Dead}
 use Rattle.bv_grammar.proofs.Derivations.{then, on_unless, dead_terminal, dead_by}
 use Rattle.bv_grammar.proofs.Tables.{table, term_table, more_of, prefix_there}
@@ -125,6 +125,11 @@ pub names_sound : (t : Option Terminal) → Sound names t (names_move t)
 names_sound (Some terminals.Name) = takes g.further_name refl refl (omega arith)
 names_sound None = passes g.no_name refl tt
 names_sound t = passes g.no_name refl (λ b. elim b [ ])
+
+pub brace_names_sound : (t : Option Terminal) → Sound brace_names t (brace_names_move t)
+brace_names_sound (Some terminals.Name) = takes g.further_brace_name refl refl (omega arith)
+brace_names_sound None = passes g.no_brace_name refl tt
+brace_names_sound t = passes g.no_brace_name refl (λ b. elim b [ ])
 
 pub sort_sound : (t : Option Terminal) → Sound sort t (sort_move t)
 sort_sound (Some (terminals.Word words.Bool)) = takes g.truth refl refl (omega arith)

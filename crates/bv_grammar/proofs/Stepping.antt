@@ -17,11 +17,11 @@ use Rattle.bv_grammar.specs.declared.stack.Step.TheVariants.{Took, Passed, Faile
 use Rattle.bv_grammar.specs.Grammar.{terminal_of, Symbol, terminal, finish, items, file}
 use Rattle.bv_grammar.specs.Derivation.{Derives, IsFile, IsSyntaxFault}
 use Rattle.bv_grammar.specs.Taking.{IsTakenAs, IsTaken, AreTaken, EndsAt, waiting}
-use Rattle.bv_grammar.specs.Moves.{Move, Moved, Stepped, symbol_of, opened, items_move, part_move, path_move, dotted_move, paths_move, binders_move, names_move, sort_move, proof_move, intro_move, separator_move, tactic_move, atom_move, literal_move, closing_move, methods_move, dots_move, arguments_move, more_methods_move, call_move, term_move, bound_move, tail_move}
+use Rattle.bv_grammar.specs.Moves.{Move, Moved, Stepped, symbol_of, opened, items_move, part_move, path_move, dotted_move, paths_move, binders_move, names_move, brace_names_move, sort_move, proof_move, intro_move, separator_move, tactic_move, atom_move, literal_move, closing_move, methods_move, dots_move, arguments_move, more_methods_move, call_move, term_move, bound_move, tail_move}
 use Rattle.bv_grammar.proofs.Place.{Leads, Dead}
 use Rattle.bv_grammar.proofs.Derivations.{follow, stay, then, on_terminal, on_finish, dead_terminal, dead_finish}
 use Rattle.bv_grammar.proofs.Pushing.{pushed}
-use Rattle.bv_grammar.proofs.Sound.{Holds, Sound, items_sound, part_sound, path_sound, dotted_sound, paths_sound, binders_sound, names_sound, sort_sound, proof_sound, intro_sound, separator_sound, tactic_sound, atom_sound, literal_sound, closing_sound, methods_sound, dots_sound, arguments_sound, more_methods_sound, call_sound, term_sound, bound_sound, tail_sound}
+use Rattle.bv_grammar.proofs.Sound.{Holds, Sound, items_sound, part_sound, path_sound, dotted_sound, paths_sound, binders_sound, names_sound, brace_names_sound, sort_sound, proof_sound, intro_sound, separator_sound, tactic_sound, atom_sound, literal_sound, closing_sound, methods_sound, dots_sound, arguments_sound, more_methods_sound, call_sound, term_sound, bound_sound, tail_sound}
 
 -- the symbol s becomes `rest` before t
 record Becomes (s : Symbol) (t : Option Terminal) (step : Step) (old new : List Open) : Type 0 where
@@ -47,6 +47,7 @@ becomes opens.Paths t step old new h = by_move (paths_move t) step old new (path
 becomes opens.Part t step old new h = by_move (part_move t) step old new (part_sound t) h
 becomes opens.Binders t step old new h = by_move (binders_move t) step old new (binders_sound t) h
 becomes opens.Names t step old new h = by_move (names_move t) step old new (names_sound t) h
+becomes opens.BraceNames t step old new h = by_move (brace_names_move t) step old new (brace_names_sound t) h
 becomes opens.Bound t step old new h = by_move (bound_move t) step old new (bound_sound t) h
 becomes opens.Sort t step old new h = by_move (sort_move t) step old new (sort_sound t) h
 becomes opens.Proof t step old new h = by_move (proof_move t) step old new (proof_sound t) h

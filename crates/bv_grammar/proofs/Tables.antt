@@ -8,7 +8,7 @@ use Rattle.bv_grammar.specs.declared.words.Terminal.TheVariants as terminals
 use Rattle.bv_grammar.specs.declared.words.Role.TheVariants as roles
 use Rattle.bv_grammar.specs.declared.words.Fixity.{Fixity}
 use Rattle.bv_grammar.specs.Operators.{prefix_level, fixity_of, when_fits}
-use Rattle.bv_grammar.specs.Grammar.{Next, begins_item, begins_part, begins_binder, begins_name, begins_atom, is_word, operator_on, Symbol, terminal, word, finish, unless, items, path, dotted, paths, part, binders, names, bound, sort, proof, intro, separator, tactic, term, tail, call, methods, more_methods, arguments, dots, atom, literal, closing, IsConstant, is_true, is_false, is_true_proposition, is_false_proposition, Begins, item_import, item_open, item_theorem, item_example, by_name, by_bool, by_bitvec, by_round, by_brace, by_binder, atom_name, atom_numeral, atom_constant, atom_round, this_word, fitting}
+use Rattle.bv_grammar.specs.Grammar.{Next, begins_item, begins_part, begins_binder, begins_name, begins_atom, is_word, operator_on, Symbol, terminal, word, finish, unless, items, path, dotted, paths, part, binders, names, brace_names, bound, sort, proof, intro, separator, tactic, term, tail, call, methods, more_methods, arguments, dots, atom, literal, closing, IsConstant, is_true, is_false, is_true_proposition, is_false_proposition, Begins, item_import, item_open, item_theorem, item_example, by_name, by_bool, by_bitvec, by_round, by_brace, by_binder, atom_name, atom_numeral, atom_constant, atom_round, this_word, fitting}
 use Rattle.bv_grammar.specs.Grammar as g
 use Rattle.bv_grammar.specs.Derivation.{Derives, here, by_rule}
 use Rattle.bv_grammar.proofs.Derivations.{after_terminal, after_unless}
@@ -49,7 +49,7 @@ paths_stop _ h = refl
 
 abbrev pub binders_table : Option Terminal → List Symbol
 binders_table (Some (terminals.Word words.LeftRound)) = word words.LeftRound ∷ terminal roles.Binder ∷ names ∷ word words.Colon ∷ bound ∷ word words.RightRound ∷ binders ∷ []
-binders_table (Some (terminals.Word words.LeftBrace)) = word words.LeftBrace ∷ terminal roles.Binder ∷ names ∷ word words.Colon ∷ sort ∷ word words.RightBrace ∷ binders ∷ []
+binders_table (Some (terminals.Word words.LeftBrace)) = word words.LeftBrace ∷ terminal roles.BraceBinder ∷ brace_names ∷ word words.Colon ∷ sort ∷ word words.RightBrace ∷ binders ∷ []
 binders_table _ = unless begins_binder ∷ []
 
 binders_stop : (o : Option Terminal) → ((t : Terminal) → o ≡ Some t → Begins begins_binder t → ⊥) → binders_table o ≡ (unless begins_binder ∷ [])
@@ -64,6 +64,14 @@ names_table _ = unless begins_name ∷ []
 names_stop : (o : Option Terminal) → ((t : Terminal) → o ≡ Some t → Begins begins_name t → ⊥) → names_table o ≡ (unless begins_name ∷ [])
 names_stop (Some terminals.Name) h = absurd (h _ refl by_binder)
 names_stop _ h = refl
+
+abbrev pub brace_names_table : Option Terminal → List Symbol
+brace_names_table (Some terminals.Name) = terminal roles.BraceBinder ∷ brace_names ∷ []
+brace_names_table _ = unless begins_name ∷ []
+
+brace_names_stop : (o : Option Terminal) → ((t : Terminal) → o ≡ Some t → Begins begins_name t → ⊥) → brace_names_table o ≡ (unless begins_name ∷ [])
+brace_names_stop (Some terminals.Name) h = absurd (h _ refl by_binder)
+brace_names_stop _ h = refl
 
 abbrev pub intro_table : Option Terminal → List Symbol
 intro_table (Some (terminals.Word words.Intros)) = word words.Intros ∷ separator ∷ []
@@ -202,6 +210,7 @@ table paths t = paths_table t
 table part t = part_table t
 table binders t = binders_table t
 table names t = names_table t
+table brace_names t = brace_names_table t
 table bound t = bound_table t
 table sort t = sort_table t
 table proof t = word words.By ∷ intro ∷ tactic ∷ []
@@ -324,6 +333,8 @@ predicts a g.brace h d = ap binders_table (after_terminal h d).0
 predicts a g.no_binder h d = binders_stop _ (after_unless h d).0
 predicts a g.further_name h d = ap names_table (after_terminal h d).0
 predicts a g.no_name h d = names_stop _ (after_unless h d).0
+predicts a g.further_brace_name h d = ap brace_names_table (after_terminal h d).0
+predicts a g.no_brace_name h d = brace_names_stop _ (after_unless h d).0
 predicts a g.variables h d = sort_there h d
 predicts a g.hypothesis h d = bound_there h d
 predicts a g.truth h d = ap sort_table (after_terminal h d).0

@@ -13,13 +13,13 @@ use Rattle.bv_grammar.specs.declared.words.Fixity.{Fixity}
 use Rattle.bv_grammar.specs.declared.stack.Step.{Step}
 use Rattle.bv_grammar.specs.declared.stack.Step.TheVariants.{Took, Passed, Failed}
 use Rattle.bv_grammar.specs.Operators.{fixity_of, when_fits}
-use Rattle.bv_grammar.specs.Grammar.{terminal_of, Next, begins_item, begins_part, begins_binder, begins_name, begins_atom, is_word, operator_on, Symbol, terminal, finish, unless, items, path, dotted, paths, part, binders, names, bound, sort, proof, intro, separator, tactic, term, tail, call, methods, more_methods, arguments, dots, atom, literal, closing, Rule, file, is_true, is_false, is_true_proposition, is_false_proposition, Begins, item_import, item_open, item_theorem, item_example, by_name, by_bool, by_bitvec, by_round, by_brace, by_binder, atom_name, atom_numeral, atom_constant, atom_round, this_word, fitting}
+use Rattle.bv_grammar.specs.Grammar.{terminal_of, Next, begins_item, begins_part, begins_binder, begins_name, begins_atom, is_word, operator_on, Symbol, terminal, finish, unless, items, path, dotted, paths, part, binders, names, brace_names, bound, sort, proof, intro, separator, tactic, term, tail, call, methods, more_methods, arguments, dots, atom, literal, closing, Rule, file, is_true, is_false, is_true_proposition, is_false_proposition, Begins, item_import, item_open, item_theorem, item_example, by_name, by_bool, by_bitvec, by_round, by_brace, by_binder, atom_name, atom_numeral, atom_constant, atom_round, this_word, fitting}
 use Rattle.bv_grammar.specs.Grammar as g
 use Rattle.bv_grammar.specs.Derivation.{Derives, here, taken, at_end, not_next, by_rule}
 use Rattle.bv_grammar.specs.Laws.{WholeOrFault}
 use Rattle.bv_grammar.proofs.Place.{Leads, Dead}
 use Rattle.bv_grammar.proofs.Derivations.{grows, follow, stay, then, after_unless, on_terminal, on_unless, dead_terminal, dead_finish}
-use Rattle.bv_grammar.proofs.Sound.{Holds, items_sound, part_sound, path_sound, dotted_sound, paths_sound, binders_sound, names_sound, sort_sound, proof_sound, intro_sound, separator_sound, tactic_sound, atom_sound, literal_sound, closing_sound, methods_sound, dots_sound, arguments_sound, more_methods_sound, call_sound, term_sound, bound_sound, tail_sound}
+use Rattle.bv_grammar.proofs.Sound.{Holds, items_sound, part_sound, path_sound, dotted_sound, paths_sound, binders_sound, names_sound, brace_names_sound, sort_sound, proof_sound, intro_sound, separator_sound, tactic_sound, atom_sound, literal_sound, closing_sound, methods_sound, dots_sound, arguments_sound, more_methods_sound, call_sound, term_sound, bound_sound, tail_sound}
 use Rattle.bv_grammar.proofs.Stepping.{fault_at}
 
 decided : (a b : Word) (flag : Bool) → sameb the_type a b ≡ flag → (a ≡ b) ⊎ (a ≡ b → ⊥)
@@ -164,6 +164,7 @@ one_more ts n go (paths ∷ a) i st m = on_move ts n go paths a i _ _ (paths_sou
 one_more ts n go (part ∷ a) i st m = on_move ts n go part a i _ _ (part_sound (slice_get ts i)) st m
 one_more ts n go (binders ∷ a) i st m = on_move ts n go binders a i _ _ (binders_sound (slice_get ts i)) st m
 one_more ts n go (names ∷ a) i st m = on_move ts n go names a i _ _ (names_sound (slice_get ts i)) st m
+one_more ts n go (brace_names ∷ a) i st m = on_move ts n go brace_names a i _ _ (brace_names_sound (slice_get ts i)) st m
 one_more ts n go (bound ∷ a) i st m = on_move ts n go bound a i _ _ (bound_sound (slice_get ts i)) st m
 one_more ts n go (sort ∷ a) i st m = on_move ts n go sort a i _ _ (sort_sound (slice_get ts i)) st m
 one_more ts n go (proof ∷ a) i st m = on_move ts n go proof a i _ _ (proof_sound (slice_get ts i)) st m

@@ -13,6 +13,7 @@ use Rattle.bv_grammar.specs.Operators.{prefix_level, fixity_of, when_fits}
 abbrev pub terminal_of : Role → Terminal
 terminal_of roles.Part = terminals.Name
 terminal_of roles.Binder = terminals.Name
+terminal_of roles.BraceBinder = terminals.Name
 terminal_of roles.Variable = terminals.Name
 terminal_of roles.Method = terminals.Name
 terminal_of roles.Numeral = terminals.Numeral
@@ -37,7 +38,7 @@ pub data Symbol : Type 0 where
   terminal : Role → Symbol
   finish : Symbol
   unless : Next → Symbol
-  items path dotted paths part binders names bound sort proof intro separator tactic : Symbol
+  items path dotted paths part binders names brace_names bound sort proof intro separator tactic : Symbol
   term : ℕ → Symbol
   tail : ℕ → ℕ → Symbol
   call methods more_methods arguments dots atom literal closing : Symbol
@@ -71,10 +72,12 @@ pub data Rule : Symbol → List Symbol → Type 0 where
   no_path : Rule paths (unless begins_part ∷ [])
   -- binder = "(" name name* ":" (type | term) ")" | "{" name name* ":" type "}"
   round : Rule binders (word words.LeftRound ∷ terminal roles.Binder ∷ names ∷ word words.Colon ∷ bound ∷ word words.RightRound ∷ binders ∷ [])
-  brace : Rule binders (word words.LeftBrace ∷ terminal roles.Binder ∷ names ∷ word words.Colon ∷ sort ∷ word words.RightBrace ∷ binders ∷ [])
+  brace : Rule binders (word words.LeftBrace ∷ terminal roles.BraceBinder ∷ brace_names ∷ word words.Colon ∷ sort ∷ word words.RightBrace ∷ binders ∷ [])
   no_binder : Rule binders (unless begins_binder ∷ [])
   further_name : Rule names (terminal roles.Binder ∷ names ∷ [])
   no_name : Rule names (unless begins_name ∷ [])
+  further_brace_name : Rule brace_names (terminal roles.BraceBinder ∷ brace_names ∷ [])
+  no_brace_name : Rule brace_names (unless begins_name ∷ [])
   variables : Rule bound (sort ∷ [])
   hypothesis : Rule bound (term 0 ∷ [])
   -- type = "Bool" | "BitVec" numeral

@@ -12,7 +12,7 @@ use Rattle.bv_grammar.specs.declared.stack.Open.TheVariants as opens
 use Rattle.bv_grammar.specs.declared.stack.Step.{Step}
 use Rattle.bv_grammar.specs.declared.stack.Step.TheVariants.{Took, Passed, Failed}
 use Rattle.bv_grammar.specs.Operators.{prefix_level, fixity_of, when_fits}
-use Rattle.bv_grammar.specs.Grammar.{terminal_of, Symbol, terminal, word, items, path, dotted, paths, part, binders, names, bound, sort, proof, intro, separator, tactic, term, tail, call, methods, more_methods, arguments, dots, atom, literal, closing}
+use Rattle.bv_grammar.specs.Grammar.{terminal_of, Symbol, terminal, word, items, path, dotted, paths, part, binders, names, brace_names, bound, sort, proof, intro, separator, tactic, term, tail, call, methods, more_methods, arguments, dots, atom, literal, closing}
 
 -- the symbol that stands on the stack
 abbrev pub symbol_of : Open → Symbol
@@ -24,6 +24,7 @@ symbol_of opens.Paths = paths
 symbol_of opens.Part = part
 symbol_of opens.Binders = binders
 symbol_of opens.Names = names
+symbol_of opens.BraceNames = brace_names
 symbol_of opens.Bound = bound
 symbol_of opens.Sort = sort
 symbol_of opens.Proof = proof
@@ -107,12 +108,16 @@ paths_move t = further_path_move (is_part t) t
 
 abbrev pub binders_move : Option Terminal → Move
 binders_move (Some (terminals.Word words.LeftRound)) = took_word words.LeftRound (terminal roles.Binder ∷ names ∷ word words.Colon ∷ bound ∷ word words.RightRound ∷ binders ∷ [])
-binders_move (Some (terminals.Word words.LeftBrace)) = took_word words.LeftBrace (terminal roles.Binder ∷ names ∷ word words.Colon ∷ sort ∷ word words.RightBrace ∷ binders ∷ [])
+binders_move (Some (terminals.Word words.LeftBrace)) = took_word words.LeftBrace (terminal roles.BraceBinder ∷ brace_names ∷ word words.Colon ∷ sort ∷ word words.RightBrace ∷ binders ∷ [])
 binders_move _ = passed
 
 abbrev pub names_move : Option Terminal → Move
 names_move (Some terminals.Name) = took roles.Binder (names ∷ [])
 names_move _ = passed
+
+abbrev pub brace_names_move : Option Terminal → Move
+brace_names_move (Some terminals.Name) = took roles.BraceBinder (brace_names ∷ [])
+brace_names_move _ = passed
 
 abbrev pub sort_move : Option Terminal → Move
 sort_move (Some (terminals.Word words.Bool)) = took_word words.Bool []
@@ -249,6 +254,7 @@ Stepped opens.Paths t step old new = Moved (paths_move t) step old new
 Stepped opens.Part t step old new = Moved (part_move t) step old new
 Stepped opens.Binders t step old new = Moved (binders_move t) step old new
 Stepped opens.Names t step old new = Moved (names_move t) step old new
+Stepped opens.BraceNames t step old new = Moved (brace_names_move t) step old new
 Stepped opens.Bound t step old new = Moved (bound_move t) step old new
 Stepped opens.Sort t step old new = Moved (sort_move t) step old new
 Stepped opens.Proof t step old new = Moved (proof_move t) step old new

@@ -1,7 +1,7 @@
 //! Items, paths, binders, sorts and proofs.
 
 ghost use Rattle.std.specs.Prelude.{◌≡◌, IfOk};
-ghost use Rattle.bv_grammar.specs.Moves.{Moved, items_move, part_move, path_move, dotted_move, is_part, paths_move, binders_move, names_move, sort_move, proof_move, intro_move, separator_move, tactic_move};
+ghost use Rattle.bv_grammar.specs.Moves.{Moved, items_move, part_move, path_move, dotted_move, is_part, paths_move, binders_move, names_move, brace_names_move, sort_move, proof_move, intro_move, separator_move, tactic_move};
 
 use crate::stack::{Open, Stack, Step, push_symbols, take, take_word};
 use crate::words::{Role, Terminal, Word};
@@ -16,6 +16,8 @@ const RIGHT_ROUND: Open = Open::Terminal(Role::Word(Word::RightRound));
 const RIGHT_BRACE: Open = Open::Terminal(Role::Word(Word::RightBrace));
 
 const BINDER: Open = Open::Terminal(Role::Binder);
+
+const BRACE_BINDER: Open = Open::Terminal(Role::BraceBinder);
 
 const WIDTH: Open = Open::Terminal(Role::Width);
 
@@ -124,8 +126,8 @@ pub(crate) fn binders(stack: &mut Stack, next: Option<Terminal>) -> Result<Step,
         }
         Some(Terminal::Word(Word::LeftBrace)) => {
             let rest = [
-                BINDER,
-                Open::Names,
+                BRACE_BINDER,
+                Open::BraceNames,
                 COLON,
                 Open::Sort,
                 RIGHT_BRACE,
@@ -142,6 +144,15 @@ pub(crate) fn names(stack: &mut Stack, next: Option<Terminal>) -> Result<Step, A
 {
     match next {
         Some(Terminal::Name) => take(stack, Role::Binder, &[Open::Names]),
+        _ => Ok(Step::Passed),
+    }
+}
+
+pub(crate) fn brace_names(stack: &mut Stack, next: Option<Terminal>) -> Result<Step, AllocError>
+    ensures { IfOk result (λ step. Moved (brace_names_move next) step stack.old.symbols.items stack.new.symbols.items) }
+{
+    match next {
+        Some(Terminal::Name) => take(stack, Role::BraceBinder, &[Open::BraceNames]),
         _ => Ok(Step::Passed),
     }
 }

@@ -20,6 +20,7 @@ pub(crate) enum Open {
     Part,
     Binders,
     Names,
+    BraceNames,
     Bound,
     Sort,
     Proof,

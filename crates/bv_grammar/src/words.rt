@@ -139,8 +139,10 @@ pub enum Terminal {
 pub enum Role {
     /// A name in a path. (`Bool` or `BitVec` in a path is taken as that word.)
     Part,
-    /// A name that a binder binds.
+    /// A name that a binder in round brackets binds, or which stands before a hypothesis.
     Binder,
+    /// A name that a binder in braces binds.
+    BraceBinder,
     /// A name that is a term.
     Variable,
     /// The name of a method.
@@ -220,7 +222,8 @@ impl Role {
         ensures { result ≡ terminal_of self }
     {
         match self {
-            Role::Part | Role::Binder | Role::Variable | Role::Method => Terminal::Name,
+            Role::Part | Role::Variable | Role::Method => Terminal::Name,
+            Role::Binder | Role::BraceBinder => Terminal::Name,
             Role::Numeral | Role::Width => Terminal::Numeral,
             Role::File => Terminal::Text,
             Role::Prefix(word) | Role::Infix(word) | Role::Constant(word) => Terminal::Word(word),

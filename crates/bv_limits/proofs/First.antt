@@ -1,12 +1,11 @@
 -- The first limit is one.
-use Rattle.std.proofs.Common.{◌≡◌, ℕ, zero, suc, ◌+◌, ◌<◌, ◌≤◌, List, length, refl, ap, sym, arith, ◌∙◌, subst, ◌⊎◌, inl, inr}
+use Rattle.std.proofs.Common.{◌≡◌, ℕ, zero, suc, ◌<◌, ◌≤◌, List, refl, ap, sym, arith, ◌∙◌, subst, ◌⊎◌, inl, inr}
 use Rattle.bv_lex.specs.declared.token.Token.{Token}
 use Rattle.bv_lex.specs.declared.fault.What.{What}
 use Rattle.bv_lex.specs.declared.fault.What.TheVariants as what
 use Rattle.bv_grammar.specs.declared.words.Terminal.{Terminal}
-use Rattle.bv_grammar.specs.Derivation.{IsFile, IsSyntaxFault}
 use Rattle.bv_grammar.proofs.Unique.{not_both, one_fault}
-use Rattle.bv_limits.specs.Limits.{IsLimit, rank, IsBefore, Reaches, whole, faulty, IsFirstLimit}
+use Rattle.bv_limits.specs.Limits.{IsLimit, rank, Reaches, whole, faulty, IsFirstLimit}
 
 one_end : (ts : List Terminal) (m n : ℕ) → Reaches ts m → Reaches ts n → m ≡ n
 one_end ts m n (whole e d) (whole f d') = e ∙ sym f

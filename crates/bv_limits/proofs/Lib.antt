@@ -1,1 +1,4 @@
 pub mod First
+pub mod Loops
+pub mod Counted
+pub mod Tested

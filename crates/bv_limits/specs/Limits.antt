@@ -1,5 +1,5 @@
 -- The limits that a file meets, and the one fault of a file that isn't read.
-use Rattle.std.specs.Prelude.{◌≡◌, ℕ, ◌+◌, ◌<◌, ◌≤◌, List, length, Some, slice_get, map, ◌⊎◌}
+use Rattle.std.specs.Prelude.{◌≡◌, ℕ, ◌<◌, ◌≤◌, List, length, Option, Some, None, slice_get, ◌⊎◌}
 use Rattle.bv_lex.specs.declared.token.Token.{Token}
 use Rattle.bv_lex.specs.declared.token.TokenKind.TheVariants.{Numeral}
 use Rattle.bv_lex.specs.declared.fault.What.{What}
@@ -11,6 +11,7 @@ use Rattle.bv_grammar.specs.declared.words.Role.{Role}
 use Rattle.bv_grammar.specs.Derivation.{IsFile, IsSyntaxFault}
 use Rattle.bv_grammar.specs.Taking.{IsTakenAs, waiting}
 use Rattle.bv_trees.specs.Trees.{Tree}
+use Rattle.bv_limits.specs.declared.plain.Met.{Met}
 use Rattle.bv_limits.specs.Roles.{IsRole, IsHead, IsTermToken, IsVariable}
 use Rattle.bv_limits.specs.Counts.{Count}
 use Rattle.bv_limits.specs.Depths.{depth, Complete}
@@ -29,17 +30,22 @@ pub record IsNoWidth (tokens : List Token) (i : ℕ) : Type 0 where
   pub value : token.kind ≡ Numeral number
   pub wide : (number ≡ 0) ⊎ (128 < number)
 
--- a limit is met at a place among the first `end` terminals, which are reached
-pub data IsLimit (tokens : List Token) (ts : List Terminal) (end : ℕ) : What → ℕ → Type 0 where
-  -- the 1,025th goal
-  goals : {at : ℕ} → at < end → IsHead ts at → Count (IsHead ts) 0 at 1024 → IsLimit tokens ts end what.Goals at
-  -- the 65th variable of a goal
-  variables : {h at : ℕ} → at < end → IsHeadOf ts h at → IsVariable ts end at → Count (IsVariable ts end) h at 64 → IsLimit tokens ts end what.Variables at
+-- A limit is met at a place among the first `end` terminals, which are reached: by the token there alone, or by how many
+-- stand before it.
+pub data IsPlainLimit (tokens : List Token) (ts : List Terminal) (end : ℕ) : What → ℕ → Type 0 where
+  width : {at : ℕ} → at < end → IsRole ts roles.Width at → IsNoWidth tokens at → IsPlainLimit tokens ts end what.Width at
+  -- more than 1,000 brackets, prefix operators, `if`s and infix operators wait
+  nested : {at : ℕ} {r : Role} {b : List Symbol} → at < end → IsTakenAs ts at r b → 1000 < waiting b → IsPlainLimit tokens ts end what.Depth at
   -- the 100,001st token of a goal's terms
-  nodes : {h at : ℕ} → at < end → IsHeadOf ts h at → IsTermToken ts at → Count (IsTermToken ts) h at 100000 → IsLimit tokens ts end what.Nodes at
-  width : {at : ℕ} → at < end → IsRole ts roles.Width at → IsNoWidth tokens at → IsLimit tokens ts end what.Width at
-  nested : {at : ℕ} {r : Role} {b : List Symbol} → at < end → IsTakenAs ts at r b → 1000 < waiting b → IsLimit tokens ts end what.Depth at
+  nodes : {h at : ℕ} → at < end → IsHeadOf ts h at → IsTermToken ts at → Count (IsTermToken ts) h at 100000 → IsPlainLimit tokens ts end what.Nodes at
+  -- the 1,025th goal
+  goals : {at : ℕ} → at < end → IsHead ts at → Count (IsHead ts) 0 at 1024 → IsPlainLimit tokens ts end what.Goals at
+
+-- Or it is met by a term that is complete and deeper than 1,000, or by the 65th variable of a goal.
+pub data IsLimit (tokens : List Token) (ts : List Terminal) (end : ℕ) : What → ℕ → Type 0 where
+  plain : {w : What} {at : ℕ} → IsPlainLimit tokens ts end w at → IsLimit tokens ts end w at
   deep : {at j : ℕ} {x : Tree} → at < end → Complete ts at x j → j ≤ end → 1000 < depth x → IsLimit tokens ts end what.Depth at
+  variables : {h at : ℕ} → at < end → IsHeadOf ts h at → IsVariable ts end at → Count (IsVariable ts end) h at 64 → IsLimit tokens ts end what.Variables at
 
 -- the order in which limits at one token are answered
 abbrev pub rank : What → ℕ
@@ -69,3 +75,8 @@ pub record IsFirstLimit (tokens : List Token) (ts : List Terminal) (w : What) (a
 -- no limit is met
 abbrev pub IsWithinLimits : List Token → List Terminal → Type 0
 IsWithinLimits tokens ts = (end : ℕ) → Reaches ts end → (w : What) (at : ℕ) → IsLimit tokens ts end w at → ⊥
+
+-- the least plain limit among these terminals, or none
+abbrev pub IsFirstPlain : List Token → List Terminal → ℕ → Option Met → Type 0
+IsFirstPlain tokens ts end (Some m) = IsPlainLimit tokens ts end m.what m.at × ((w : What) (at : ℕ) → IsPlainLimit tokens ts end w at → IsBefore m.at m.what at w)
+IsFirstPlain tokens ts end None = (w : What) (at : ℕ) → IsPlainLimit tokens ts end w at → ⊥

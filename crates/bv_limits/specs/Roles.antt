@@ -1,14 +1,12 @@
 -- What the terminals of a file are taken as that limits count. A place is a number of terminals before it.
-use Rattle.std.specs.Prelude.{◌≡◌, ℕ, ◌+◌, ◌<◌, List, ◌∷◌}
+use Rattle.std.specs.Prelude.{ℕ, ◌+◌, ◌<◌, ◌≤◌, List}
 use Rattle.bv_grammar.specs.declared.words.Word.{Word}
 use Rattle.bv_grammar.specs.declared.words.Word.TheVariants as words
 use Rattle.bv_grammar.specs.declared.words.Terminal.{Terminal}
 use Rattle.bv_grammar.specs.declared.words.Role.{Role}
 use Rattle.bv_grammar.specs.declared.words.Role.TheVariants as roles
-use Rattle.bv_grammar.specs.Grammar.{Symbol, word, names, bound, sort}
+use Rattle.bv_grammar.specs.Grammar.{Symbol}
 use Rattle.bv_grammar.specs.Taking.{IsTakenAs}
-use Rattle.bv_trees.specs.Terms.{IsWord}
-use Rattle.bv_trees.specs.Files.{Names}
 
 -- the terminal at i is taken in this role
 abbrev pub IsRole : List Terminal → Role → ℕ → Type 0
@@ -32,12 +30,11 @@ pub data IsTermToken (ts : List Terminal) (i : ℕ) : Type 0 where
 
 -- a sort begins at i
 pub data BeginsSort (ts : List Terminal) (i : ℕ) : Type 0 where
-  of_truths : IsWord ts words.Bool i → BeginsSort ts i
-  of_vectors : IsWord ts words.BitVec i → BeginsSort ts i
+  of_truths : IsRole ts (roles.Word words.Bool) i → BeginsSort ts i
+  of_vectors : IsRole ts (roles.Word words.BitVec) i → BeginsSort ts i
 
--- A variable's name stands at i: in braces at once, in round brackets once the terminal behind the colon begins a sort and is
--- among the first `end`, which are reached.
+-- A variable's name stands at i: in braces at once; in round brackets where names follow up to a colon, and behind that begins
+-- a sort that is among the first `end` terminals, which are reached.
 pub data IsVariable (ts : List Terminal) (end i : ℕ) : Type 0 where
-  in_braces : {b : List Symbol} → IsTakenAs ts i roles.Binder (names ∷ word words.Colon ∷ sort ∷ b) → IsVariable ts end i
-  in_brackets : {k : ℕ} {b : List Symbol} → IsTakenAs ts i roles.Binder (names ∷ word words.Colon ∷ bound ∷ b) → Names ts (i + 1) k → IsWord ts words.Colon k → BeginsSort ts (k + 1) → k + 1 < end
-      → IsVariable ts end i
+  in_braces : IsRole ts roles.BraceBinder i → IsVariable ts end i
+  in_brackets : {k : ℕ} → i < k → ((m : ℕ) → i ≤ m → m < k → IsRole ts roles.Binder m) → IsRole ts (roles.Word words.Colon) k → BeginsSort ts (k + 1) → k + 1 < end → IsVariable ts end i

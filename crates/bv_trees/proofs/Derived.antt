@@ -2,7 +2,7 @@
 use Rattle.std.proofs.Common.{ℕ, ◌+◌, List, ◌∷◌, Option}
 use Rattle.bv_grammar.specs.declared.words.Word.TheVariants as words
 use Rattle.bv_grammar.specs.declared.words.Terminal.{Terminal}
-use Rattle.bv_grammar.specs.Grammar.{Symbol, word, items, path, dotted, paths, part, binders, names, bound, sort, proof, intro, separator, tactic, term, tail, call, methods, more_methods, arguments, dots, atom, literal, closing}
+use Rattle.bv_grammar.specs.Grammar.{Symbol, word, items, path, dotted, paths, part, binders, names, brace_names, bound, sort, proof, intro, separator, tactic, term, tail, call, methods, more_methods, arguments, dots, atom, literal, closing}
 use Rattle.bv_grammar.specs.Grammar as g
 use Rattle.bv_grammar.specs.Derivation.{Derives, taken, not_next, by_rule}
 use Rattle.bv_trees.specs.declared.pieces.Sort.{Sort}
@@ -79,6 +79,10 @@ pub by_names : {ts : List Terminal} {a b : List Symbol} {i j n : ℕ} → Names 
 by_names (f.no_name e) d = by_rule g.no_name (not_next e d)
 by_names (f.further_name e h) d = by_rule g.further_name (taken e (by_names h d))
 
+pub by_brace_names : {ts : List Terminal} {a b : List Symbol} {i j n : ℕ} → Names ts i j → Derives ts a j b n → Derives ts (brace_names ∷ a) i b n
+by_brace_names (f.no_name e) d = by_rule g.no_brace_name (not_next e d)
+by_brace_names (f.further_name e h) d = by_rule g.further_brace_name (taken e (by_brace_names h d))
+
 pub by_bound : {ts : List Terminal} {a b : List Symbol} {i j n : ℕ} {k l : ℕ} {c : Binder} → Bound ts k l i c j → Derives ts a j b n → Derives ts (bound ∷ a) i b n
 by_bound (f.to_sort s) d = by_rule g.variables (by_sort s d)
 by_bound (f.to_term h) d = by_rule g.hypothesis (by_term h d)
@@ -86,7 +90,7 @@ by_bound (f.to_term h) d = by_rule g.hypothesis (by_term h d)
 pub by_binders : {ts : List Terminal} {a b : List Symbol} {i j n : ℕ} {bs : List Binder} → Binders ts i bs j → Derives ts a j b n → Derives ts (binders ∷ a) i b n
 by_binders (f.no_binder e) d = by_rule g.no_binder (not_next e d)
 by_binders (f.round e n h c v r m) d = by_rule g.round (taken e (taken n (by_names h (taken c (by_bound v (taken r (by_binders m d)))))))
-by_binders (f.brace e n h c s r m) d = by_rule g.brace (taken e (taken n (by_names h (taken c (by_sort s (taken r (by_binders m d)))))))
+by_binders (f.brace e n h c s r m) d = by_rule g.brace (taken e (taken n (by_brace_names h (taken c (by_sort s (taken r (by_binders m d)))))))
 
 pub by_separator : {ts : List Terminal} {a b : List Symbol} {i j n : ℕ} → Separator ts i j → Derives ts a j b n → Derives ts (separator ∷ a) i b n
 by_separator (f.no_separator e) d = by_rule g.not_separated (not_next e d)

@@ -2,7 +2,7 @@
 use Rattle.std.proofs.Common.{◌≡◌, ℕ, ◌+◌, List, [], ◌∷◌, ◌++◌, Option, Some, None, refl}
 use Rattle.std.specs.Prelude.{slice_get}
 use Rattle.bv_grammar.specs.declared.words.Terminal.{Terminal}
-use Rattle.bv_grammar.specs.Grammar.{terminal_of, Symbol, terminal, finish, unless, items, path, dotted, paths, part, binders, names, bound, sort, proof, intro, separator, tactic, term, tail, call, methods, more_methods, arguments, dots, atom, literal, closing}
+use Rattle.bv_grammar.specs.Grammar.{terminal_of, Symbol, terminal, finish, unless, items, path, dotted, paths, part, binders, names, brace_names, bound, sort, proof, intro, separator, tactic, term, tail, call, methods, more_methods, arguments, dots, atom, literal, closing}
 use Rattle.bv_grammar.specs.Grammar as g
 use Rattle.bv_grammar.specs.Derivation.{Derives, here, taken, at_end, not_next, by_rule}
 use Rattle.bv_trees.specs.declared.pieces.Sort.{Sort}
@@ -27,6 +27,7 @@ Means ts (paths ∷ a) i n = (k : ℕ) × Paths ts i k × Means ts a k n
 Means ts (part ∷ a) i n = PartAt ts i × Means ts a (i + 1) n
 Means ts (binders ∷ a) i n = (k : ℕ) × ((bs : List Binder) × Binders ts i bs k) × Means ts a k n
 Means ts (names ∷ a) i n = (k : ℕ) × Names ts i k × Means ts a k n
+Means ts (brace_names ∷ a) i n = (k : ℕ) × Names ts i k × Means ts a k n
 Means ts (bound ∷ a) i n = (k : ℕ) × ((a b : ℕ) → (c : Binder) × Bound ts a b i c k) × Means ts a k n
 Means ts (sort ∷ a) i n = (k : ℕ) × ((s : Sort) × SortAt ts i s k) × Means ts a k n
 Means ts (proof ∷ a) i n = (k : ℕ) × ((s : Option ℕ) × Proof ts i s k) × Means ts a k n
@@ -64,6 +65,8 @@ by ts i n a g.brace h = (h.1.1.2.1.2.1.0, (x.variables (i + 1) h.1.1.0 h.1.1.2.1
 by ts i n a g.no_binder h = (i, ([], f.no_binder h.0), h.1)
 by ts i n a g.further_name h = (h.1.0, f.further_name h.0 h.1.1, h.1.2)
 by ts i n a g.no_name h = (i, f.no_name h.0, h.1)
+by ts i n a g.further_brace_name h = (h.1.0, f.further_name h.0 h.1.1, h.1.2)
+by ts i n a g.no_brace_name h = (i, f.no_name h.0, h.1)
 by ts i n a g.variables h = (h.0, λ b c. (x.variables b c h.1.0, f.to_sort h.1.1), h.2)
 by ts i n a g.hypothesis h = (h.0, λ b c. (x.hypothesis h.1.0, f.to_term h.1.1), h.2)
 by ts i n a g.truth h = (i + 1, (sorts.Truth, t.truths h.0), h.1)

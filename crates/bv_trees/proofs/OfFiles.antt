@@ -6,7 +6,7 @@ use Rattle.bv_grammar.specs.declared.words.Terminal.{Terminal}
 use Rattle.bv_grammar.specs.declared.words.Role.{Role}
 use Rattle.bv_grammar.specs.declared.words.Role.TheVariants as roles
 use Rattle.bv_grammar.specs.declared.reading.Taken.{Taken}
-use Rattle.bv_grammar.specs.Grammar.{Symbol, terminal, word, finish, items, path, dotted, paths, part, binders, names, bound, sort, proof, intro, separator, tactic, term, file}
+use Rattle.bv_grammar.specs.Grammar.{Symbol, terminal, word, finish, items, path, dotted, paths, part, binders, names, brace_names, bound, sort, proof, intro, separator, tactic, term, file}
 use Rattle.bv_grammar.specs.Grammar as g
 use Rattle.bv_grammar.specs.Derivation.{Derives, here}
 use Rattle.bv_grammar.specs.declared.reading.End.{End}
@@ -25,7 +25,7 @@ use Rattle.bv_trees.specs.Codes.{pieces, binder_pieces, goal_pieces, ArePieces}
 use Rattle.bv_trees.specs.Building as b
 use Rattle.bv_trees.specs.Building.{Building, head_ends, role_of, run, put, bind, sort_behind, close}
 use Rattle.bv_trees.proofs.Unique.{term_is_no_sort}
-use Rattle.bv_trees.proofs.Derived.{by_sort, by_term, by_path, by_paths, by_part, by_names, by_bound, by_binders, by_intros, by_the_rest}
+use Rattle.bv_trees.proofs.Derived.{by_sort, by_term, by_path, by_paths, by_part, by_names, by_brace_names, by_bound, by_binders, by_intros, by_the_rest}
 use Rattle.bv_trees.proofs.Whole.{has_goals}
 use Rattle.bv_trees.proofs.Settling.{st, left_quiet}
 use Rattle.bv_trees.proofs.OfTerms.{Whole, takes, on, past, taken_as, on_complete, not_there, sort_run, sort_told, term_run}
@@ -82,6 +82,10 @@ paths_run k (f.a_path p d) r h = let r1 = on r g.further_path in paths_run k d (
 names_run : {ts : List Terminal} {xs : List Taken} {i j : ℕ} {a : List Symbol} {c : Building} → Whole ts xs → Names ts i j → Derives ts file 0 (names ∷ a) i → run xs i ≡ c → run xs j ≡ c
 names_run k (f.no_name e) r h = h
 names_run k (f.further_name e d) r h = let r1 = on r g.further_name in names_run k d (past r1 e) (takes k (taken_as r1 e) h)
+
+brace_names_run : {ts : List Terminal} {xs : List Taken} {i j : ℕ} {a : List Symbol} {c : Building} → Whole ts xs → Names ts i j → Derives ts file 0 (brace_names ∷ a) i → run xs i ≡ c → run xs j ≡ c
+brace_names_run k (f.no_name e) r h = h
+brace_names_run k (f.further_name e d) r h = let r1 = on r g.further_brace_name in brace_names_run k d (past r1 e) (takes k (taken_as r1 e) h)
 
 -- no sort behind a colon
 no_sort_behind : (i : ℕ) (o : Option Role) → (o ≡ Some (roles.Word words.Bool) → ⊥) → (o ≡ Some (roles.Word words.BitVec) → ⊥) → sort_behind i o ≡ None
@@ -159,8 +163,8 @@ binders_run {xs = xs} {i = i} {gl = gl} ps k (f.brace {k = m'} {s = s} e m ns d 
     let h1 = takes k (taken_as r1 e) q.stands ∙ ap (at_names (i + 1)) (closed i q) in
     let r2 = past r1 e in
     let r3 = past r2 m in
-    let h3 = names_run k ns r3 (takes k (taken_as r2 m) h1) in
-    let r4 = follow r3 (by_names ns here) in
+    let h3 = brace_names_run k ns r3 (takes k (taken_as r2 m) h1) in
+    let r4 = follow r3 (by_brace_names ns here) in
     let h4 = takes k (taken_as r4 d) h3 ∙ ap (λ w. bind m' (sort_behind m' (role_of (slice_get xs (m' + 1)))) (st [] None None (i + 1) w)) (append-nil all) in
     let r5 = past r4 d in
     let r6 = follow r5 (by_sort u here) in

@@ -137,6 +137,7 @@ on_role i roles.File w next b = put (piece.Proof (Some i)) b
 on_role i (roles.Word v) w next b = on_word i v w next b
 on_role i roles.Part w next b = b
 on_role i roles.Binder w next b = b
+on_role i roles.BraceBinder w next b = b
 on_role i roles.Width w next b = b
 
 abbrev pub role_of : Option Taken → Option Role

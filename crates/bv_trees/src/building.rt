@@ -131,7 +131,7 @@ impl Builder {
             Role::Method => self.call(at),
             Role::File => self.put(Piece::Proof(Some(at))),
             Role::Word(word) => self.word(at, word, taken.waiting, next),
-            Role::Part | Role::Binder | Role::Width => Ok(()),
+            Role::Part | Role::Binder | Role::BraceBinder | Role::Width => Ok(()),
         }
     }
 
