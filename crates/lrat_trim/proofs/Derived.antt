@@ -1,7 +1,7 @@
 -- The trimmed lines of a derived log check.
-use Rattle.std.proofs.Common.{◌≡◌, ◌≢◌, ℕ, zero, suc, ◌+◌, ◌<◌, ◌≤◌, Bool, true, false, not, ◌&&◌, ◌||◌, cond, nat_eq, nat_le, nat_lt, List, [], ◌∷◌, ◌++◌, length, map, refl, ap, sym, ◌∙◌, subst, arith, length-append, pos, ◌⊎◌, inl, inr}
+use Rattle.std.proofs.Common.{◌≡◌, ◌≢◌, ℕ, suc, ◌+◌, ◌<◌, ◌≤◌, Bool, true, false, not, ◌&&◌, ◌||◌, cond, nat_eq, nat_le, nat_lt, List, [], ◌∷◌, ◌++◌, length, map, refl, ap, sym, ◌∙◌, subst, arith, length-append, pos, ◌⊎◌, inl, inr}
 use Rattle.std.specs.Prelude.{Some, None, Ok, Err, is_some}
-use Rattle.std.specs.List.{list_any, list_all, find, position_or_len}
+use Rattle.std.specs.List.{list_any, find, position_or_len}
 use Rattle.std.specs.Option.{option_map}
 use Rattle.std.specs.declared.option.Option.{Option}
 use Rattle.std.specs.declared.result.Result.{Result}
@@ -11,10 +11,10 @@ use Rattle.std.proofs.lemmas.List.Folds.{list_any-append}
 use Rattle.sat_form.specs.Literals.{Literal, negate}
 use Rattle.sat_form.specs.Assignment.{clause_false, unit_literal}
 use Rattle.sat_form.specs.Log.{Logged}
-use Rattle.sat_form.proofs.Sets.{both, join, neither, either_left, either_right, one_of, nat_is, nat_itself}
+use Rattle.sat_form.proofs.Sets.{both, neither, either_left, either_right, one_of, nat_is, nat_itself}
 use Rattle.lrat_lines.specs.Lines.{Line}
 use Rattle.lrat_lines.specs.Lines.Line.{Add}
-use Rattle.lrat_lines.specs.Judge.{Clauses, Entry, Cause, Taken, Hints, Checks, add_clause, added, checks_from, clause_of, given, given_from, is_last, judge, judge_add, judge_first, split_hints, take_clause, take_hints, take_unit, two_opposite, with_hint}
+use Rattle.lrat_lines.specs.Judge.{Clauses, Entry, Cause, Taken, Checks, add_clause, added, checks_from, clause_of, given, given_from, is_last, judge, judge_add, judge_first, split_hints, take_clause, take_hints, take_unit, two_opposite, with_hint}
 use Rattle.lrat_lines.specs.Judge.Cause.{IdInUse}
 use Rattle.lrat_lines.specs.Judge.Taken.{Conflict, Units, Stop}
 use Rattle.lrat_trim.specs.Derivation.{IsFinished, are_earlier}

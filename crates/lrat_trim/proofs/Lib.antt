@@ -3,3 +3,4 @@ pub mod Marking
 pub mod Marked
 pub mod Positions
 pub mod Derived
+pub mod Reached

@@ -1,6 +1,6 @@
 -- Marking what the empty clause needs, one line back.
-use Rattle.std.proofs.Common.{◌≡◌, ◌≢◌, ℕ, zero, suc, ◌+◌, ◌-◌, ◌<◌, ◌≤◌, Bool, true, false, not, ◌&&◌, ◌||◌, cond, nat_eq, nat_le, nat_lt, get_or, List, [], ◌∷◌, ◌++◌, length, refl, ap, sym, ◌∙◌, subst, arith, ◌⊎◌, inl, inr}
-use Rattle.std.specs.List.{list_any, list_all}
+use Rattle.std.proofs.Common.{◌≡◌, ◌≢◌, ℕ, ◌+◌, ◌-◌, ◌<◌, ◌≤◌, Bool, true, false, ◌&&◌, ◌||◌, cond, nat_eq, nat_le, nat_lt, get_or, List, [], ◌∷◌, ◌++◌, length, refl, ap, sym, ◌∙◌, arith, inl, inr}
+use Rattle.std.specs.List.{list_any}
 use Rattle.std.proofs.lemmas.Grind.{common_steps}
 use Rattle.std.proofs.lemmas.List.{get_or_past}
 use Rattle.std.proofs.lemmas.List.Folds.{list_any-append}
@@ -8,7 +8,7 @@ use Rattle.sat_form.specs.Log.{Logged}
 use Rattle.sat_form.proofs.Sets.{both, join, either_left, either_right, one_of, neither, nat_itself}
 use Rattle.lrat_trim.specs.Derivation.{are_earlier}
 use Rattle.lrat_trim.specs.Marks.{marked_from, are_marked, AreClosed, mark_behind}
-use Rattle.lrat_trim.specs.Trim.{Kept, keep, keep_line, is_needed}
+use Rattle.lrat_trim.specs.Trim.{Kept, keep, is_needed}
 
 eq_not : (m n : ℕ) → m ≢ n → nat_eq m n ≡ false
 eq_not m n h = grind (arith, common_steps)

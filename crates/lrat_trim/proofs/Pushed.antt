@@ -1,6 +1,5 @@
 -- A line at the end of a log.
-use Rattle.std.proofs.Common.{◌≡◌, ℕ, suc, ◌+◌, Bool, true, ◌&&◌, List, [], ◌∷◌, ◌++◌, length, refl, ap, sym, ◌∙◌, subst, arith}
-use Rattle.sat_form.specs.Log.{Logged}
+use Rattle.std.proofs.Common.{◌≡◌, ℕ, suc, ◌+◌, true, List, [], ◌∷◌, ◌++◌, length, refl, ap, sym, subst, arith}
 use Rattle.sat_form.proofs.Sets.{both, join}
 use Rattle.lrat_trim.specs.declared.LogLine.{LogLine}
 use Rattle.lrat_trim.specs.Derivation.{logged_from, are_earlier, hints_earlier}

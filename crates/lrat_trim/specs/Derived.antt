@@ -5,12 +5,16 @@ use Rattle.sat_form.specs.Log.{Logged}
 use Rattle.lrat_lines.specs.Judge.{Clauses, Checks, add_clause, given, take_hints}
 use Rattle.lrat_lines.specs.Judge.Taken.{Conflict}
 use Rattle.lrat_trim.specs.Derivation.{IsFinished, are_earlier}
-use Rattle.lrat_trim.specs.Trim.{trim}
+use Rattle.lrat_trim.specs.Trim.{IsTrimmed, trim}
 
 -- The ids rise by one from this one on, and each hint is an earlier id.
 abbrev pub AreNumbered : ℕ → List Logged → Type 0
 AreNumbered id [] = Unit {0}
 AreNumbered id (l ∷ ls) = (l.id ≡ id) × (are_earlier id l.hints ≡ true) × AreNumbered (id + 1) ls
+
+-- In such a log the lines that are found from the last to the first are those that the empty clause reaches.
+abbrev pub TrimmedReached : Type 0
+TrimmedReached = (m : ℕ) (log : List Logged) → AreNumbered (m + 1) log → IsTrimmed m log (trim m log)
 
 -- Where the literals of a line are false, its hints lead to a conflict by unit propagation on the clauses before it.
 abbrev pub AreDerived : Clauses → List Logged → Type 0

@@ -1,6 +1,6 @@
 -- Trimming: the lines of a log that its empty clause needs, with new ids.
-use Rattle.std.specs.Prelude.{◌≡◌, ℕ, ◌+◌, ◌||◌, Bool, if◌then◌else◌, nat_eq, nat_le, length, List, [], ◌∷◌, ◌++◌, map, pos}
-use Rattle.std.specs.List.{IsAmong, list_any, position_or_len}
+use Rattle.std.specs.Prelude.{◌≡◌, ◌↔◌, ℕ, ◌+◌, ◌||◌, Bool, true, if◌then◌else◌, nat_eq, nat_le, length, List, [], ◌∷◌, ◌++◌, map, pos}
+use Rattle.std.specs.List.{IsAmong, filter, list_any, position_or_len}
 use Rattle.sat_form.specs.Log.{Logged}
 use Rattle.lrat_lines.specs.Lines.{Line}
 use Rattle.lrat_lines.specs.Lines.Line.{Add}
@@ -10,7 +10,22 @@ pub data Reaches (log : List Logged) : ℕ → Type 0 where
   empty_clause : (l : Logged) → IsAmong log l → l.lits ≡ [] → Reaches log l.id
   hint : (l : Logged) → IsAmong log l → Reaches log l.id → (id : ℕ) → IsAmong l.hints id → Reaches log id
 
--- The lines that are kept, and the ids that their hints name.
+-- The ids of the given clauses 1 to m stay, and the kept lines have m + 1, m + 2, .. in their order.
+abbrev pub new_id : ℕ → List Logged → ℕ → ℕ
+new_id m kept id = if nat_le id m then id else m + 1 + position_or_len (λ l. nat_eq l.id id) kept
+
+abbrev pub renumbered : ℕ → List Logged → Logged → Line
+renumbered m kept l = Add (new_id m kept l.id) l.lits (map (λ id. pos (new_id m kept id)) l.hints)
+
+abbrev pub all_renumbered : ℕ → List Logged → List Line
+all_renumbered m kept = map (renumbered m kept) kept
+
+-- The lines of a log that the empty clause reaches through hints, in their order, with new ids.
+abbrev pub IsTrimmed : ℕ → List Logged → List Line → Type 0
+IsTrimmed m log lines =
+    (reached : ℕ → Bool) × ((id : ℕ) → (reached id ≡ true) ↔ Reaches log id) × (lines ≡ all_renumbered m (filter (λ l. reached l.id) log))
+
+-- The same as a program finds it, from the last line to the first: the lines that are kept, and the ids that their hints name.
 pub record Kept : Type 0 where
   pub ids : List ℕ
   pub lines : List Logged
@@ -27,13 +42,6 @@ abbrev pub keep : List Logged → Kept
 keep [] = record { ids = []; lines = [] }
 keep (l ∷ later) = keep_line (keep later) l
 
--- The ids of the given clauses 1 to m stay, and the kept lines have m + 1, m + 2, .. in their order.
-abbrev pub new_id : ℕ → List Logged → ℕ → ℕ
-new_id m kept id = if nat_le id m then id else m + 1 + position_or_len (λ l. nat_eq l.id id) kept
-
-abbrev pub renumbered : ℕ → List Logged → Logged → Line
-renumbered m kept l = Add (new_id m kept l.id) l.lits (map (λ id. pos (new_id m kept id)) l.hints)
-
--- The lines that the empty clause reaches through hints, in their order, with new ids.
+-- What it finds are the trimmed lines where the log is numbered and hints name earlier lines alone.
 abbrev pub trim : ℕ → List Logged → List Line
-trim m log = map (renumbered m (keep log).lines) (keep log).lines
+trim m log = all_renumbered m (keep log).lines

@@ -7,13 +7,13 @@ ghost use Rattle.std.specs.List.{list_all};
 ghost use Rattle.lrat_lines.specs.Lines.{is_writable};
 ghost use Rattle.lrat_lines.specs.Seen.{seen};
 ghost use Rattle.lrat_trim.specs.Derivation.{IsFinished, are_earlier, next_id};
-ghost use Rattle.lrat_trim.specs.Trim.{trim};
+ghost use Rattle.lrat_trim.specs.Trim.{IsTrimmed, trim};
 
 mod laws;
 mod needed;
 mod renumber;
 
-pub use laws::trimmed_check;
+pub use laws::{trimmed_check, trimmed_reached};
 use lrat_lines::Line;
 use sat_form::Lit;
 use std::alloc::{AllocError, Global};
@@ -84,6 +84,7 @@ impl Log {
     /// O(number of lines, of literals and of hints).
     pub fn trim(&self) -> Result<Vec<Line>, AllocError>
         requires { IsFinished self.now.lines }
+        ensures reached { IfOk result (λ lines. IsTrimmed self.now.inputs self.now.lines (map seen lines.items)) }
         ensures lines { IfOk result (λ lines. map seen lines.items ≡ trim self.now.inputs self.now.lines) }
         ensures writable { IfOk result (λ lines. list_all is_writable (map seen lines.items) ≡ true) }
     {

@@ -1,3 +1,4 @@
 pub mod Holds
 pub mod Pieces
 pub mod Sets
+mod Coded

@@ -1,4 +1,5 @@
 pub mod Literals
+pub mod Codes
 pub mod Assignment
 pub mod Truth
 pub mod Shape

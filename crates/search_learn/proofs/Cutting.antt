@@ -7,7 +7,7 @@ use Rattle.std.proofs.lemmas.List.Elements.{filter-append}
 use Rattle.std.proofs.lemmas.Grind.{common_steps}
 use Rattle.sat_form.specs.Literals.{Literal, same_literal, same_sign, member}
 use Rattle.search_learn.specs.declared.Step.{Step}
-use Rattle.search_learn.specs.Trail.{assigned, level, cut}
+use Rattle.search_learn.specs.Trail.{assigned, is_assigned, level, cut}
 use Rattle.search_learn.specs.Rule.{Continues, IsTrail, EntryFollows}
 use Rattle.search_learn.specs.Values.{AreValues, IsOfMachine, is_value}
 use Rattle.sat_form.proofs.Sets.{nat_is}
@@ -71,7 +71,7 @@ cut_last vars to t e last over =
     ∙ ap (λ b. cut to (front t) ++ cond b (e ∷ []) []) above
     ∙ append-nil (cut to (front t))
 
-member_last : (b : List Step) (e : Step) (l : Literal) → member (assigned (b ++ e ∷ [])) l ≡ (member (assigned b) l || same_literal l e.lit)
+pub member_last : (b : List Step) (e : Step) (l : Literal) → member (assigned (b ++ e ∷ [])) l ≡ (member (assigned b) l || same_literal l e.lit)
 member_last [] e l = only (same_literal l e.lit)
   where
     only : (x : Bool) → (x || false) ≡ (false || x)
@@ -82,6 +82,27 @@ member_last (x ∷ b) e l = ap (λ m. same_literal l x.lit || m) (member_last b 
     regroup : (x y z : Bool) → (x || (y || z)) ≡ ((x || y) || z)
     regroup true y z = refl
     regroup false y z = refl
+
+pub apart : (m n : ℕ) → 0 < m → 0 < n → nat_eq m n ≡ false → (m - 1) ≢ (n - 1)
+apart m n a b h e = let same : m ≡ n = omega arith in grind (arith, common_steps)
+
+-- A literal of another variable isn't the last entry's.
+pub not_last : (b : List Step) (e : Step) (l : Literal) → nat_eq l.var e.lit.var ≡ false → member (assigned (b ++ e ∷ [])) l ≡ member (assigned b) l
+not_last b e l differ =
+    member_last b e l
+    ∙ ap (λ x. member (assigned b) l || x) (ap (λ x. x && same_sign l.positive e.lit.positive) differ)
+    ∙ last_false (member (assigned b) l)
+  where
+    last_false : (x : Bool) → (x || false) ≡ x
+    last_false true = refl
+    last_false false = refl
+
+-- A variable of an unassigned literal stands in no entry.
+pub gone : (b : List Step) (l k : Literal) → is_assigned b k ≡ false → l.var ≡ k.var → member (assigned b) l ≡ false
+gone b l k free same = elim (member (assigned b) l) as (λ t. member (assigned b) l ≡ t → t ≡ false) [
+  | true ↦ λ has. absurd (other_variable (assigned b) l k has free same)
+  | false ↦ λ _. refl
+] refl
 
 -- Without the last entry its variable has no value.
 pub values_popped : (vars : ℕ) (t : List Step) (values : List (Option Bool)) (e : Step) → IsLast vars t e → AreValues vars values t → AreValues vars (set values (e.lit.var - 1) None) (front t)
@@ -95,35 +116,15 @@ values_popped vars t values e last are =
             ap (λ v. is_value v l.positive) (rw get_or-set_other refl)
             ∙ are.each l above
             ∙ ap (λ x. member (assigned x) l) last.split
-            ∙ member_last (front t) e l
-            ∙ not_here l (other l differ)
+            ∙ not_last (front t) e l differ
       ] refl;
     }
   where
-    apart : (m n : ℕ) → 0 < m → 0 < n → nat_eq m n ≡ false → (m - 1) ≢ (n - 1)
-    apart m n a b h e = let same : m ≡ n = omega arith in grind (arith, common_steps)
-
-    other : (l : Literal) → nat_eq l.var e.lit.var ≡ false → same_literal l e.lit ≡ false
-    other l h = ap (λ b. b && same_sign l.positive e.lit.positive) h
-
-    not_here : (l : Literal) → same_literal l e.lit ≡ false → (member (assigned (front t)) l || same_literal l e.lit) ≡ member (assigned (front t)) l
-    not_here l h = ap (λ b. member (assigned (front t)) l || b) h ∙ last_false (member (assigned (front t)) l)
-      where
-        last_false : (x : Bool) → (x || false) ≡ x
-        last_false true = refl
-        last_false false = refl
-
-    gone : (l : Literal) → l.var ≡ e.lit.var → false ≡ member (assigned (front t)) l
-    gone l same = elim (member (assigned (front t)) l) as (λ b. member (assigned (front t)) l ≡ b → false ≡ b) [
-      | true ↦ λ has. absurd (other_variable (assigned (front t)) l e.lit has last.follows.new same)
-      | false ↦ λ _. refl
-    ] refl
-
     value_gone : (l : Literal) → l.var ≡ e.lit.var → is_value (get_or (set values (e.lit.var - 1) None) (l.var - 1) None) l.positive ≡ member (assigned (front t)) l
     value_gone l same =
         ap (λ v. is_value (get_or (set values (e.lit.var - 1) None) (v - 1) None) l.positive) same
         ∙ ap (λ v. is_value v l.positive) none_there
-        ∙ gone l same
+        ∙ sym (gone (front t) l e.lit last.follows.new same)
       where
         none_there : get_or (set values (e.lit.var - 1) None) (e.lit.var - 1) None ≡ None
         none_there =

@@ -46,7 +46,7 @@ two_signs true false false h = refl
 two_signs false a b h = cc
 
 -- an assigned literal's variable is found
-found_none : (b : List Step) (l : Literal) → is_true (assigned b) l ≡ false → is_false (assigned b) l ≡ false → find (λ e. nat_eq e.lit.var l.var) b ≡ None
+pub found_none : (b : List Step) (l : Literal) → is_true (assigned b) l ≡ false → is_false (assigned b) l ≡ false → find (λ e. nat_eq e.lit.var l.var) b ≡ None
 found_none [] l t f = refl
 found_none (e ∷ b) l t f =
     let parts = neither (same_literal l e.lit) (member (assigned b) l) t in
@@ -58,7 +58,7 @@ found_none (e ∷ b) l t f =
       | false ↦ λ _. found_none b l parts.1 parts2.1
     ] refl
 
-level_found : (b c : List Step) (e : Step) (l : Literal) → find (λ x. nat_eq x.lit.var l.var) b ≡ None → nat_eq e.lit.var l.var ≡ true → level_of (b ++ e ∷ c) l ≡ e.level
+pub level_found : (b c : List Step) (e : Step) (l : Literal) → find (λ x. nat_eq x.lit.var l.var) b ≡ None → nat_eq e.lit.var l.var ≡ true → level_of (b ++ e ∷ c) l ≡ e.level
 level_found b c e l none same =
     ap (λ o. option_map_or (λ x. x.level) o 0) (find-append (λ x. nat_eq x.lit.var l.var) b (e ∷ c)
     ∙ ap (λ o. option_or o (cond (nat_eq e.lit.var l.var) (Some e) (find (λ x. nat_eq x.lit.var l.var) c))) none

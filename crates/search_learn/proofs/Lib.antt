@@ -13,6 +13,7 @@ pub mod Solved
 pub mod Lubys
 pub mod Ordered
 pub mod Cutting
+pub mod Arrays
 pub mod Cases
 pub mod Lessons
 pub mod Hints

@@ -1,9 +1,9 @@
-//! The search machine's definition (conflict-driven clause learning with restarts by Luby's sequence), its laws, and
-//! its conflict analysis: from a clause that is false on the trail to the clause learnt, with the hints that let an
-//! LRAT checker follow it by unit propagation alone.
+//! The search machine's definition (conflict-driven clause learning with restarts by Luby's sequence), its laws, its
+//! trail, and its conflict analysis: from a clause that is false on the trail to the clause learnt, with the hints that
+//! let an LRAT checker follow it by unit propagation alone.
 #![tactic(auto)]
 
-ghost use Rattle.std.specs.Prelude.{All, List, [], slice_index_or, ℕ, true, ◌==◌, IfOk, OnErr, OnOk, length, ◌+◌, ◌++◌, ◌<◌, ◌≡◌, ◌≤◌};
+ghost use Rattle.std.specs.Prelude.{All, List, [], get_or, ℕ, true, ◌==◌, IfOk, OnErr, OnOk, length, ◌+◌, ◌++◌, ◌<◌, ◌≡◌, ◌≤◌};
 ghost use Rattle.sat_form.specs.Literals as literals;
 ghost use Rattle.sat_form.specs.Literals.{negate};
 ghost use Rattle.search_learn.specs.Analysis as analysis;
@@ -15,10 +15,14 @@ ghost use Rattle.search_learn.specs.Trail.{IsLevels, clause_false, level_of};
 ghost use Rattle.std.specs.List.{list_any};
 
 mod laws;
+mod moves;
+mod trail;
 
 pub use laws::{runs_end, sat_is_true, trails_follow};
+pub use moves::{assign, is_restart, luby, put_entries, restart};
 use sat_form::{Cnf, Lit};
 use std::alloc::{AllocError, Global};
+pub use trail::Trail;
 
 /// What a step of the search machine comes to, or several steps in a row.
 #[derive(Clone, Copy, Debug, PartialEq, Eq)]
@@ -116,13 +120,23 @@ fn put_all(set: &mut Vec<Lit>, lits: &[Lit]) -> Result<(), AllocError>
     Ok(())
 }
 
-/// The literals of a learnt clause, none where there is no such clause.
+/// A learnt clause, without literals where there is none.
 fn learnt_at(learnt: &[Vec<Lit>], place: usize) -> &[Lit]
-    ensures { result.now ≡ slice_index_or (rule.lists learnt.now) place [] }
+    ensures { result.now ≡ get_or (rule.lists learnt.now) place [] }
 {
     match learnt.get(place) {
         Some(lits) => lits.as_slice(),
         None => &[],
+    }
+}
+
+/// The clause at a place, from 0: the given ones and then the learnt ones; without literals where there is none. O(1).
+pub fn clause_at<'a>(clauses: &'a Cnf, learnt: &'a [Vec<Lit>], place: usize) -> &'a [Lit]
+    ensures { result.now ≡ get_or (clauses.now.clauses ++ rule.lists learnt.now) place [] }
+{
+    match clauses.clauses.get(place) {
+        Some(lits) => lits,
+        None => learnt_at(learnt, place - clauses.clauses.len()),
     }
 }
 
@@ -133,11 +147,7 @@ fn clause_with<'a>(clauses: &'a Cnf, learnt: &'a [Vec<Lit>], id: u64) -> &'a [Li
     if id == 0 {
         return &[];
     }
-    let place = (id - 1) as usize;
-    match clauses.clauses.get(place) {
-        Some(lits) => lits,
-        None => learnt_at(learnt, place - clauses.clauses.len()),
-    }
+    clause_at(clauses, learnt, (id - 1) as usize)
 }
 
 /// The level at which each variable was assigned.

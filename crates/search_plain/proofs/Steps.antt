@@ -1,27 +1,31 @@
 -- What the plain machine keeps over steps that learn nothing.
-use Rattle.std.proofs.Common.{◌≡◌, ℕ, ◌≤◌, Bool, true, List, length, arith}
+use Rattle.std.proofs.Common.{◌≡◌, ℕ, ◌≤◌, Bool, true, List, length, arith, subst, sym}
 use Rattle.std.specs.Prelude.{None}
-use Rattle.std.specs.declared.option.Option.{Option}
 use Rattle.sat_form.specs.Literals.{Literal}
 use Rattle.sat_form.specs.Shape.{is_formula, variables_within}
 use Rattle.sat_form.proofs.Sets.{both}
 use Rattle.search_learn.specs.declared.Step.{Step}
 use Rattle.search_learn.specs.declared.Turn.{Turn}
 use Rattle.search_learn.specs.declared.Turn.TheVariants.{More}
-use Rattle.search_learn.specs.Machine.{State, quietly, step}
-use Rattle.search_learn.specs.Values.{AreValues}
+use Rattle.search_learn.specs.Machine.{State, clause_at, quietly, step}
+use Rattle.search_learn.specs.Rule.{IsTrail}
+use Rattle.search_learn.specs.Values.{IsOfMachine}
 use Rattle.search_learn.proofs.Keeps.{Kept}
 use Rattle.search_learn.proofs.Reached.{reached_kept}
 use Rattle.search_learn.proofs.Cases.{reached_more}
 use Rattle.search_plain.specs.Kept.{Holds}
 
-pub kept_of : (cs : List (List Literal)) (budget : ℕ) (values : List (Option Bool)) (learnt : ℕ) (m : State) → is_formula m.vars cs ≡ true → Holds cs budget values learnt m → Kept m
-kept_of cs budget values learnt m formula holds = reached_kept m.vars cs budget m (both _ (variables_within m.vars cs) formula).1 holds.reached
+pub kept_of : (cs : List (List Literal)) (budget : ℕ) (vars learnt : ℕ) (m : State) → is_formula m.vars cs ≡ true → Holds cs budget vars learnt m → Kept m
+kept_of cs budget vars learnt m formula holds = reached_kept m.vars cs budget m (both _ (variables_within m.vars cs) formula).1 holds.reached
 
-pub holds_stop : (cs : List (List Literal)) (budget : ℕ) (values : List (Option Bool)) (learnt : ℕ) (m : State) (turn : Turn) → Holds cs budget values learnt m → step budget m ≡ quietly (record m { end = turn }) → (turn ≡ More → m.end ≡ More) → Holds cs budget values learnt (record m { end = turn })
-holds_stop cs budget values learnt m turn h moves same = record {
+-- Its trail is one of the machine.
+pub machine_of : (cs : List (List Literal)) (budget : ℕ) (vars learnt : ℕ) (m : State) → is_formula m.vars cs ≡ true → Holds cs budget vars learnt m → IsOfMachine vars m.trail
+machine_of cs budget vars learnt m formula holds = (clause_at m.clauses, subst (λ (v : ℕ). IsTrail (clause_at m.clauses) v m.trail) (sym holds.over) (kept_of cs budget vars learnt m formula holds).is_trail)
+
+pub holds_stop : (cs : List (List Literal)) (budget : ℕ) (vars learnt : ℕ) (m : State) (turn : Turn) → Holds cs budget vars learnt m → step budget m ≡ quietly (record m { end = turn }) → (turn ≡ More → m.end ≡ More) → Holds cs budget vars learnt (record m { end = turn })
+holds_stop cs budget vars learnt m turn h moves same = record {
   limit = h.limit;
-  are_values = h.are_values;
+  over = h.over;
   signs = h.signs;
   scores = h.scores;
   low = h.low;
@@ -35,14 +39,14 @@ holds_stop cs budget values learnt m turn h moves same = record {
 }
 
 -- What a step that learns nothing leaves.
-pub holds_more : (cs : List (List Literal)) (budget : ℕ) (values v : List (Option Bool)) (learnt : ℕ) (m : State) (trail : List Step) (signs : List Bool) (spent : ℕ) → Holds cs budget values learnt m
-    → step budget m ≡ quietly (record m { trail = trail; signs = signs; spent = spent }) → AreValues m.vars v trail → length signs ≡ m.vars → m.spent ≤ spent
-    → Holds cs budget v learnt (record m { trail = trail; signs = signs; spent = spent })
-holds_more cs budget values v learnt m trail signs spent h moves are size more =
+pub holds_more : (cs : List (List Literal)) (budget : ℕ) (vars now learnt : ℕ) (m : State) (trail : List Step) (signs : List Bool) (spent : ℕ) → Holds cs budget vars learnt m
+    → step budget m ≡ quietly (record m { trail = trail; signs = signs; spent = spent }) → now ≡ m.vars → length signs ≡ m.vars → m.spent ≤ spent
+    → Holds cs budget now learnt (record m { trail = trail; signs = signs; spent = spent })
+holds_more cs budget vars now learnt m trail signs spent h moves over size more =
     let paid = h.paid in
     record {
       limit = h.limit;
-      are_values = are;
+      over = over;
       signs = size;
       scores = h.scores;
       low = h.low;

@@ -1,15 +1,13 @@
 -- What the plain machine keeps beside its state.
-use Rattle.std.specs.Prelude.{◌≡◌, ℕ, ◌*◌, ◌^◌, ◌≤◌, Bool, List, length, get_or}
-use Rattle.std.specs.declared.option.Option.{Option}
+use Rattle.std.specs.Prelude.{◌≡◌, ℕ, ◌*◌, ◌^◌, ◌≤◌, List, length, get_or}
 use Rattle.sat_form.specs.Literals.{Literal}
 use Rattle.search_learn.specs.declared.Turn.TheVariants.{More}
 use Rattle.search_learn.specs.Machine.{State, Reached}
-use Rattle.search_learn.specs.Values.{AreValues}
 
--- What holds of the plain machine unless it is broken. learnt: how many clauses it learnt
-pub record Holds (cs : List (List Literal)) (budget : ℕ) (values : List (Option Bool)) (learnt : ℕ) (m : State) : Type 0 where
+-- What holds of the plain machine unless it is broken. vars: how many variables its trail has; learnt: how many clauses it learnt
+pub record Holds (cs : List (List Literal)) (budget : ℕ) (vars learnt : ℕ) (m : State) : Type 0 where
   pub limit : budget ≤ 2 ^ 62
-  pub are_values : AreValues m.vars values m.trail
+  pub over : vars ≡ m.vars
   pub signs : length m.signs ≡ m.vars
   pub scores : length m.scores ≡ m.vars
   pub low : (i : ℕ) → get_or m.scores i 0 ≤ m.conflicts * 2 ^ 64

@@ -18,7 +18,7 @@ mod moves;
 mod scan;
 
 use sat_form::{Cnf, Lit};
-use search_learn::{Learnt, Step, Turn, learn};
+use search_learn::{Learnt, Step, Trail, Turn, assign, learn, put_entries, restart};
 use std::alloc::{AllocError, Global};
 use std::marker::Model;
 
@@ -30,8 +30,7 @@ pub struct Plain {
     alloc: Global,
     clauses: Cnf,
     learnt: Vec<Vec<Lit>>,
-    trail: Vec<Step>,
-    values: Vec<Option<bool>>,
+    trail: Trail,
     scores: Vec<u128>,
     signs: Vec<bool>,
     budget: u64,
@@ -73,7 +72,7 @@ impl Model for Plain {
         vars = p.clauses.vars;
         inputs = length p.clauses.clauses;
         clauses = numbered 1 (p.clauses.clauses ++ lists p.learnt.items);
-        trail = p.trail.items;
+        trail = p.trail.steps;
         scores = p.scores.items;
         signs = p.signs.items;
         spent = p.spent;
@@ -86,11 +85,11 @@ impl Model for Plain {
       broken = p.broken;
     } };
 
-    ghost invariant = { λ p. p.broken ≡ false → Holds p.clauses.clauses p.budget p.values.items (length p.learnt.items) (record {
+    ghost invariant = { λ p. p.broken ≡ false → Holds p.clauses.clauses p.budget p.trail.vars (length p.learnt.items) (record {
       vars = p.clauses.vars;
       inputs = length p.clauses.clauses;
       clauses = numbered 1 (p.clauses.clauses ++ lists p.learnt.items);
-      trail = p.trail.items;
+      trail = p.trail.steps;
       scores = p.scores.items;
       signs = p.signs.items;
       spent = p.spent;
@@ -112,8 +111,7 @@ impl Plain {
             alloc,
             clauses: cnf.copy(alloc)?,
             learnt: Vec::new(alloc),
-            trail: Vec::new(alloc),
-            values: vec![in alloc; None; vars]?,
+            trail: Trail::new(alloc, cnf.vars)?,
             scores: vec![in alloc; 0; vars]?,
             signs: vec![in alloc; false; vars]?,
             budget,
@@ -173,7 +171,7 @@ impl Plain {
         ensures { IsCase self.now.budget self.now.state result }
     {
         let spent = self.spent >= self.budget;
-        match clauses::false_clause(&self.clauses, &self.learnt, &self.trail, &self.values) {
+        match clauses::false_clause(&self.clauses, &self.learnt, &self.trail) {
             Some(id) => {
                 return if spent {
                     Case::Spent
@@ -183,10 +181,10 @@ impl Plain {
             }
             None => {}
         }
-        if clauses::has_unit(&self.clauses, &self.learnt, &self.trail, &self.values) {
+        if clauses::has_unit(&self.clauses, &self.learnt, &self.trail) {
             return if spent { Case::Spent } else { Case::Units };
         }
-        if clauses::all_assigned(self.clauses.vars, &self.trail, &self.values) {
+        if clauses::all_assigned(self.clauses.vars, &self.trail) {
             return Case::Solved;
         }
         if spent { Case::Spent } else { Case::Choice }
@@ -212,23 +210,9 @@ impl Plain {
         ensures kept { OnErr result (IsSameTask self.old self.new) }
     {
         self.broken = true;
-        let level = moves::current_level(&self.trail);
-        let entries = moves::units(
-            self.alloc,
-            &self.clauses,
-            &self.learnt,
-            &self.trail,
-            &self.values,
-            level,
-        )?;
-        let vars = self.clauses.vars;
-        self.spent += moves::put(
-            vars,
-            &mut self.trail,
-            &mut self.values,
-            &mut self.signs,
-            &entries,
-        )?;
+        let level = self.trail.level();
+        let entries = moves::units(self.alloc, &self.clauses, &self.learnt, &self.trail, level)?;
+        self.spent += put_entries(&mut self.trail, &mut self.signs, &entries)?;
         self.last = None;
         self.broken = false;
         Ok(())
@@ -243,22 +227,13 @@ impl Plain {
         ensures kept { OnErr result (IsSameTask self.old self.new) }
     {
         self.broken = true;
-        let vars = self.clauses.vars;
-        let var = clauses::choose(vars, &self.trail, &self.values, &self.scores);
-        let lit = Lit::new(var, self.signs[var as usize - 1]);
-        let level = moves::current_level(&self.trail) + 1;
+        let var = clauses::choose(self.clauses.vars, &self.trail, &self.scores);
         let entry = Step {
-            lit,
-            level,
+            lit: Lit::new(var, self.signs[var as usize - 1]),
+            level: self.trail.level() + 1,
             reason: 0,
         };
-        scan::assign(
-            vars,
-            &mut self.trail,
-            &mut self.values,
-            &mut self.signs,
-            entry,
-        )?;
+        assign(&mut self.trail, &mut self.signs, entry)?;
         self.spent += 1;
         self.last = None;
         self.broken = false;
@@ -271,13 +246,12 @@ impl Plain {
         requires here { IsConflict self.now.budget self.now.state id }
         ensures { IfOk result (λ learnt. Teaches self.now.budget self.now.state (seen learnt)) }
     {
-        let level = moves::current_level(&self.trail);
         learn(
             self.alloc,
             &self.clauses,
             &self.learnt,
-            &self.trail,
-            level,
+            self.trail.steps(),
+            self.trail.level(),
             id,
         )
     }
@@ -329,21 +303,14 @@ impl Plain {
         ensures kept { OnErr result (IsSameTask self.old self.new) }
     {
         self.broken = true;
-        let vars = self.clauses.vars;
         let lits = Vec::from_slice(self.alloc, &learnt.lits)?;
         self.learnt.push(lits)?;
         self.spent += 1;
         self.conflicts += 1;
         self.since += 1;
-        moves::cut(vars, &mut self.trail, &mut self.values, learnt.back);
+        self.trail.cut(learnt.back);
         moves::raise(&mut self.scores, &learnt.lits, self.conflicts);
-        moves::restart(
-            vars,
-            &mut self.trail,
-            &mut self.values,
-            &mut self.since,
-            &mut self.restarts,
-        );
+        restart(&mut self.trail, &mut self.since, &mut self.restarts);
         self.last = Some(learnt);
         self.broken = false;
         Ok(())

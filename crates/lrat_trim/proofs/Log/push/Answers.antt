@@ -1,7 +1,7 @@
-use Rattle.std.proofs.Common.{◌≡◌, ◌+◌, ◌++◌, ◌∷◌, ◌<◌, ◌^◌, [], ◌∙◌, ℕ, List, ap, sym, length, length-append, arith}
+use Rattle.std.proofs.Common.{◌≡◌, ◌+◌, ◌++◌, ◌∷◌, ◌<◌, ◌^◌, [], ◌∙◌, List, ap, length, length-append, arith}
 use Rattle.sat_form.specs.Log.{Logged}
 use Rattle.lrat_trim.specs.declared.LogLine.{LogLine}
-use Rattle.lrat_trim.specs.Derivation.{Derivation, are_earlier, hints_earlier, logged_from}
+use Rattle.lrat_trim.specs.Derivation.{are_earlier, hints_earlier, logged_from}
 use Rattle.lrat_trim.proofs.Pushed.{earlier_push, length_logged, logged_push}
 use Rattle.lrat_trim.proofs.Log.push.Goals as goal
 

@@ -1,4 +1,4 @@
-use Rattle.std.proofs.Common.{◌≡◌, ◌+◌, ◌<◌, ◌||◌, ◌∙◌, ap, false, nat_eq, get_or, length, take, arith}
+use Rattle.std.proofs.Common.{◌+◌, ◌||◌, ◌∙◌, ap, false, nat_eq, get_or, length, arith}
 use Rattle.std.specs.List.{list_any}
 use Rattle.std.proofs.lemmas.List.{take_all}
 use Rattle.lrat_trim.proofs.Marking.{any_next, earlier_at}

@@ -1,5 +1,4 @@
-use Rattle.std.proofs.Common.{◌≡◌, ◌+◌, length, length-set, slice_set, true, arith}
-use Rattle.lrat_trim.specs.Derivation.{are_earlier}
+use Rattle.std.proofs.Common.{◌+◌, length, length-set, slice_set, true, arith}
 use Rattle.lrat_trim.proofs.Marking.{earlier_more}
 use Rattle.lrat_trim.proofs.needed.mark_needed.Goals as goal
 

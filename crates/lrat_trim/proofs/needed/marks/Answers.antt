@@ -1,8 +1,6 @@
-use Rattle.std.proofs.Common.{◌≡◌, ◌+◌, ◌-◌, ◌<◌, ◌≤◌, ◌∙◌, ◌∷◌, refl, ap, sym, subst, ℕ, Bool, List, false, get_or, length, length-drop, drop, arith}
+use Rattle.std.proofs.Common.{◌≡◌, ◌+◌, ◌-◌, ◌∙◌, refl, ap, sym, subst, ℕ, Bool, List, length, length-drop, drop, arith}
 use Rattle.std.proofs.lemmas.List.{with_items_is}
 use Rattle.sat_form.specs.Log.{Logged}
-use Rattle.lrat_trim.specs.declared.LogLine.{LogLine}
-use Rattle.lrat_trim.specs.Derivation.{are_earlier, logged_from}
 use Rattle.lrat_trim.proofs.Marked.{IsMarkedFrom, mark_step}
 use Rattle.lrat_trim.proofs.Marking.{line_earlier, rest_from, rest_more}
 use Rattle.lrat_trim.proofs.Pushed.{length_logged}

@@ -1,11 +1,11 @@
-use Rattle.std.proofs.Common.{◌≡◌, ◌+◌, ◌<◌, ◌≤◌, ◌++◌, ◌∷◌, ◌∙◌, [], ap, sym, refl, subst, ℕ, List, true, false, length, map, arith}
+use Rattle.std.proofs.Common.{◌≡◌, ◌+◌, ◌++◌, ◌∷◌, ◌∙◌, [], ap, sym, refl, subst, ℕ, List, true, length, map, arith}
 use Rattle.std.proofs.lemmas.List.{length-map, map-append}
 use Rattle.std.specs.List.{list_all}
 use Rattle.sat_form.specs.Log.{Logged}
 use Rattle.lrat_lines.specs.Lines.{Line, is_id, is_writable}
 use Rattle.lrat_lines.specs.Lines.Line.{Add}
 use Rattle.lrat_lines.specs.Seen.{seen}
-use Rattle.lrat_trim.specs.Derivation.{are_earlier, logged_from}
+use Rattle.lrat_trim.specs.Derivation.{logged_from}
 use Rattle.lrat_trim.specs.Marks.{marked_from, moved_hints}
 use Rattle.lrat_trim.proofs.Marking.{line_earlier, rest_from, rest_more}
 use Rattle.lrat_trim.proofs.Positions.{IsRenumbered, all_last, id_fits, marks_fit, passed_over, taken_over}

@@ -8,4 +8,4 @@ use Rattle.search_plain.proofs.moves.units.Given as goal
 abbrev pub invariant-loop-place : goal.invariant-loop-place
 invariant-loop-place l =
     let all = l.clauses.clauses ++ lists l.learnt in
-    unit_entries l.trail l.level (numbered 1 all) ≡ l.entries.items ++ unit_entries l.trail l.level (rest all l.place)
+    unit_entries l.trail.steps l.level (numbered 1 all) ≡ l.entries.items ++ unit_entries l.trail.steps l.level (rest all l.place)

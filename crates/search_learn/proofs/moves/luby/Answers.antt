@@ -1,6 +1,6 @@
 use Rattle.std.proofs.Common.{◌<◌, suc, arith, ℕ, subst}
 use Rattle.search_learn.proofs.Lubys.{twice, enough_bits}
-use Rattle.search_plain.proofs.moves.luby.Goals as goal
+use Rattle.search_learn.proofs.moves.luby.Goals as goal
 
 pub loop-power-preserved : goal.loop-power-preserved
 loop-power-preserved c =

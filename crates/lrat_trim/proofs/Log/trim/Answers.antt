@@ -1,0 +1,9 @@
+use Rattle.std.proofs.Common.{◌+◌}
+use Rattle.lrat_trim.proofs.Reached.{if_trimmed, logged_numbered}
+use Rattle.lrat_trim.proofs.Log.trim.Goals as goal
+
+pub returns-clause-reached : goal.returns-clause-reached
+returns-clause-reached c =
+    let p = c.self.inside in
+    let lines = rw c.deref-2.ensures.value at c.marked_lines.ensures.lines in
+    rw (← c.self.view_is) (if_trimmed p.inputs _ (logged_numbered (p.inputs + 1) p.lines.items c.self.invariant.earlier) c.marked_lines.result lines)
