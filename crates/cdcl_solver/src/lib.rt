@@ -150,3 +150,6 @@ impl Search {
         self.plain.spent()
     }
 }
+
+#[cfg(test)]
+mod tests;

@@ -1,9 +1,11 @@
-//! A walk over a small circuit, told by hand.
+//! A walk over a small circuit, told by hand, and that cones may cross threads.
 
 use crate::{Ask, ConeNode, Walk};
 use gate_shape::{Lit23, input};
 use sat_form::Lit;
 use std::alloc::AllocError;
+
+fn crosses_threads<T: Send + Sync>(_value: &T) {}
 
 /// The exclusive or of two inputs: the gates 8193 and 8194 are both and neither, and 8195 is that both are false.
 #[test]
@@ -22,6 +24,7 @@ fn numbers_inputs_and_gates_in_order_of_completion(rt: HostRuntime) -> Result<()
     assert_eq!(rt; last, Ask::Done);
     if let Ask::Done = last {
         let cone = walk.finish();
+        crosses_threads(&cone);
         let (first, second) = (Lit::new(2, true), Lit::new(3, true));
         let want = [
             ConeNode::Input(0, 0),

@@ -1,6 +1,6 @@
 //! Judging lines, and the clauses that they leave.
 
-ghost use Rattle.std.specs.Prelude.{◌≡◌, List, [], IfOk};
+ghost use Rattle.std.specs.Prelude.{◌≡◌, List, [], IfOk, OnErr};
 ghost use Rattle.std.specs.Option.{option_map};
 ghost use Rattle.sat_form.specs.Literals.{Literal};
 ghost use Rattle.lrat_lines.specs.Judge as judge;
@@ -119,7 +119,8 @@ impl Judge {
 
     /// Judges an addition, and takes over its clause.
     fn add(&mut self, id: u64, lits: Vec<Lit>, hints: &[i64]) -> Result<Judged, AllocError>
-        ensures { IfOk result (λ judged. IsJudged judged self.old self.new (judge.judge self.old (Addition id lits.items hints.now)) (is_last (Addition id lits.items hints.now))) }
+        ensures judged { IfOk result (λ judged. IsJudged judged self.old self.new (judge.judge self.old (Addition id lits.items hints.now)) (is_last (Addition id lits.items hints.now))) }
+        ensures err { OnErr result (self.new ≡ self.old) }
     {
         if let Some(cause) = judge_add(
             self.alloc,
@@ -141,12 +142,13 @@ impl Judge {
     }
 
     /// Judges a line, and takes over what it adds or deletes. A line that is refused leaves the clauses as they were. The
-    /// only error is want of memory; nothing is said of the clauses then.
+    /// only error is want of memory, which leaves them likewise.
     ///
     /// A hint costs the length of the clause that it names, and each id that is named O(log n) for n clauses. Where the
     /// hints before the groups make no conflict, all clauses are gone over once for the negated pivot.
     pub fn take(&mut self, line: Line) -> Result<Judged, AllocError>
-        ensures { IfOk result (λ judged. IsJudged judged self.old self.new (judge.judge self.old (seen line)) (is_last (seen line))) }
+        ensures judged { IfOk result (λ judged. IsJudged judged self.old self.new (judge.judge self.old (seen line)) (is_last (seen line))) }
+        ensures err { OnErr result (self.new ≡ self.old) }
     {
         match line {
             Line::Skip => Ok(Judged::Kept),

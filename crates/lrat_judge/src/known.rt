@@ -1,6 +1,6 @@
 //! The clauses that lines may name, in a map by id: lines add and delete them under ids of their own choice.
 
-ghost use Rattle.std.specs.Prelude.{◌≡◌, None, IfOk, OnOk};
+ghost use Rattle.std.specs.Prelude.{◌≡◌, None, IfOk, OnErr, OnOk};
 ghost use Rattle.std.specs.List.{find};
 ghost use Rattle.std.specs.Option.{option_copied, option_map};
 ghost use Rattle.lrat_lines.specs.Judge.{clause_of, add_clause, delete_clauses, given, judge_missing, split_hints};
@@ -47,10 +47,11 @@ impl Known {
         }
     }
 
-    /// Adds a clause under an id that isn't in use. O(log n).
+    /// Adds a clause under an id that isn't in use; after a refusal the clauses are unchanged. O(log n).
     pub(crate) fn add(&mut self, id: u64, lits: Vec<Lit>) -> Result<(), AllocError>
         requires { clause_of self.old id ≡ None }
-        ensures { OnOk result (self.new ≡ add_clause self.old id lits.items) }
+        ensures ok { OnOk result (self.new ≡ add_clause self.old id lits.items) }
+        ensures err { OnErr result (self.new ≡ self.old) }
     {
         match self.clauses.insert(id, lits) {
             Ok(_) => Ok(()),

@@ -103,12 +103,26 @@ fn run<R: Source>(alloc: Global, progress: &mut Progress, source: &mut R) -> Res
 }
 
 /// Replays a certificate over clauses: whether its lines, of which at most `most` bytes are taken, check up to one that
-/// adds the empty clause.
+/// adds the empty clause (LRAT).
 ///
-/// The answer is the one of the text, however the source cuts it: Ok exactly where all lines up to the first empty clause
-/// check, and then no values satisfy the clauses; a refusal exactly where that line is the first one that doesn't check;
-/// X is judged as soon as it is whole, and at most 65,536 bytes are read at
-/// once. Time: the reads, the bytes taken, and what judging takes. Memory: the clauses, one line, and one piece.
+/// The lines are judged in order, each as soon as it is whole, up to the first one that adds the empty clause or that
+/// doesn't check, and the answer is the one of the text, however the source cuts it:
+///
+/// - `Ok`: a line adds the empty clause, and it and all before it check. Then no values satisfy the clauses.
+/// - `Bad`: the line isn't one of the grammar.
+/// - `IdInUse`: the line adds a clause under an id that is in use.
+/// - `NoClause`: a hint or a group of the line names a clause that isn't there.
+/// - `NotUnit`: a hint's clause is neither wholly false nor unit when its turn comes.
+/// - `NoConflict`: the line's hints, or those of a group, end without a conflict.
+/// - `MissingGroup`: this clause has the negated pivot, no group, and no other literal that is true.
+/// - `StrangeGroup`: a group is for this clause, which lacks the negated pivot.
+/// - `NoEmpty`: the text ends, all its lines check, and none adds the empty clause.
+/// - `TooLong`: `most` bytes were taken, those of its lines that LF ends don't decide, and a further byte came.
+/// - `ReadFault`: a read of this call failed, and the source's count of faults rose.
+/// - `Memory`: there was no memory.
+///
+/// At most 65,536 bytes are read at once. Time: the reads, the bytes taken, and what judging takes. Memory: the clauses,
+/// one line, and one piece.
 pub fn replay<R: Source>(
     alloc: Global,
     cnf: &Cnf,

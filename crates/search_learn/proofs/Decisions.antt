@@ -66,7 +66,7 @@ level_found b c e l none same =
 
 module _ (lits_of : ℕ → List Literal) (vars : ℕ) (trail : List Step) where
   -- the level of an entry's literal, and of its negation
-  level_entry : (b c : List Step) (e : Step) → trail ≡ b ++ e ∷ c → EntryFollows lits_of vars b e → level_of trail (negate e.lit) ≡ e.level
+  pub level_entry : (b c : List Step) (e : Step) → trail ≡ b ++ e ∷ c → EntryFollows lits_of vars b e → level_of trail (negate e.lit) ≡ e.level
   level_entry b c e split f =
       let parts = neither (is_true (assigned b) e.lit) (is_false (assigned b) e.lit) f.new in
       ap (λ t. level_of t (negate e.lit)) split ∙ level_found b c e (negate e.lit) (found_none b e.lit parts.0 parts.1) (nat_itself e.lit.var)
@@ -104,7 +104,7 @@ member_any p (l ∷ c) k has h =
       | inr later ↦ either_right (p l) (list_any p c) (member_any p c k later h)
     ]
 
-stays_member : (c : List Literal) (x k : Literal) → member c k ≡ true → (k ≡ x → false ≡ true) → member (without c x) k ≡ true
+pub stays_member : (c : List Literal) (x k : Literal) → member c k ≡ true → (k ≡ x → false ≡ true) → member (without c x) k ≡ true
 stays_member [] x k has differ = has
 stays_member (l ∷ c) x k has differ =
     elim (same_literal x l) as (λ t. same_literal x l ≡ t → member (cond (not t) (l ∷ without c x) (without c x)) k ≡ true) [

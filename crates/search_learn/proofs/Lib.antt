@@ -12,6 +12,10 @@ pub mod Reached
 pub mod Solved
 pub mod Lubys
 pub mod Ordered
+pub mod SameSets
+pub mod Marks
+pub mod Conflicts
+pub mod Collected
 pub mod Cutting
 pub mod Arrays
 pub mod Cases

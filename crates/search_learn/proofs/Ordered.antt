@@ -6,15 +6,8 @@ use Rattle.sat_form.specs.Literals.{Literal, negate, same_sign, same_literal, st
 use Rattle.search_learn.specs.declared.Step.{Step}
 use Rattle.search_learn.specs.Analysis.{Resolved, is_resolved, resolve_if, resolve_back, lesson}
 use Rattle.search_learn.specs.Cases.{times}
+use Rattle.search_learn.specs.Marks.{key, Ordered}
 use Rattle.sat_form.proofs.Sets.{both, one_of, neither}
-
-abbrev pub key : Literal → ℕ
-key l = 2 * l.var + cond l.positive 1 0
-
--- The keys rise, from low on.
-abbrev pub Ordered : ℕ → List Literal → Type 0
-Ordered low [] = Unit {0}
-Ordered low (l ∷ ls) = (low ≤ key l) × Ordered (key l + 1) ls
 
 less : (v w : ℕ) → nat_lt v w ≡ true → v < w
 less v w h = grind (arith, common_steps)
@@ -28,13 +21,13 @@ equal v w h = grind (arith, common_steps)
 not_equal : (v w : ℕ) → nat_eq v w ≡ false → w ≤ v → w < v
 not_equal v w h l = grind (arith, common_steps)
 
-before_key : (v w : ℕ) (a b : Bool) → (nat_lt v w || (nat_eq v w && (not a && b))) ≡ true → 2 * v + cond a 1 0 < 2 * w + cond b 1 0
+pub before_key : (v w : ℕ) (a b : Bool) → (nat_lt v w || (nat_eq v w && (not a && b))) ≡ true → 2 * v + cond a 1 0 < 2 * w + cond b 1 0
 before_key v w true true h = elim (one_of (nat_lt v w) _ h) [ inl l ↦ let s = less v w l in omega arith | inr e ↦ let p = (both (nat_eq v w) false e).1 in cc ]
 before_key v w true false h = elim (one_of (nat_lt v w) _ h) [ inl l ↦ let s = less v w l in omega arith | inr e ↦ let p = (both (nat_eq v w) false e).1 in cc ]
 before_key v w false true h = elim (one_of (nat_lt v w) _ h) [ inl l ↦ let s = less v w l in omega arith | inr e ↦ let p = equal v w (both (nat_eq v w) true e).0 in omega arith ]
 before_key v w false false h = elim (one_of (nat_lt v w) _ h) [ inl l ↦ let s = less v w l in omega arith | inr e ↦ let p = (both (nat_eq v w) false e).1 in cc ]
 
-behind_key : (v w : ℕ) (a b e : Bool) → nat_eq v w ≡ e → (nat_lt v w || (e && (not a && b))) ≡ false → (e && same_sign a b) ≡ false → 2 * w + cond b 1 0 < 2 * v + cond a 1 0
+pub behind_key : (v w : ℕ) (a b e : Bool) → nat_eq v w ≡ e → (nat_lt v w || (e && (not a && b))) ≡ false → (e && same_sign a b) ≡ false → 2 * w + cond b 1 0 < 2 * v + cond a 1 0
 behind_key v w true true true is h d = cc
 behind_key v w true false true is h d = let p = equal v w is in omega arith
 behind_key v w false true true is h d = let q = (neither (nat_lt v w) true h).1 in cc
@@ -49,11 +42,11 @@ behind_key v w a b false is h d =
     small true = omega arith
     small false = omega arith
 
-lower : (low high : ℕ) (s : List Literal) → low ≤ high → Ordered high s → Ordered low s
+pub lower : (low high : ℕ) (s : List Literal) → low ≤ high → Ordered high s → Ordered low s
 lower low high [] l h = tt
 lower low high (k ∷ s) l h = let a = h.0 in (omega arith, h.1)
 
-put_ordered : (low : ℕ) (s : List Literal) (l : Literal) → low ≤ key l → Ordered low s → Ordered low (put s l)
+pub put_ordered : (low : ℕ) (s : List Literal) (l : Literal) → low ≤ key l → Ordered low s → Ordered low (put s l)
 put_ordered low [] l a h = (a, tt)
 put_ordered low (k ∷ s) l a h =
     elim (stands_before l k) as (λ t. stands_before l k ≡ t → Ordered low (cond t (l ∷ k ∷ s) (cond (same_literal l k) (k ∷ s) (k ∷ put s l)))) [
@@ -64,7 +57,7 @@ put_ordered low (k ∷ s) l a h =
       ] refl
     ] refl
 
-without_ordered : (low : ℕ) (s : List Literal) (l : Literal) → Ordered low s → Ordered low (without s l)
+pub without_ordered : (low : ℕ) (s : List Literal) (l : Literal) → Ordered low s → Ordered low (without s l)
 without_ordered low [] l h = tt
 without_ordered low (k ∷ s) l h =
     elim (same_literal l k) as (λ t. Ordered low (cond (not t) (k ∷ without s l) (without s l))) [
@@ -72,11 +65,11 @@ without_ordered low (k ∷ s) l h =
       | false ↦ (h.0, without_ordered (key k + 1) s l h.1)
     ]
 
-put_all_ordered : (s ls : List Literal) → Ordered 0 s → Ordered 0 (put_all s ls)
+pub put_all_ordered : (s ls : List Literal) → Ordered 0 s → Ordered 0 (put_all s ls)
 put_all_ordered s [] h = h
 put_all_ordered s (l ∷ ls) h = put_all_ordered (put s l) ls (put_ordered 0 s l (omega arith) h)
 
-back_ordered : (clause_of : ℕ → List Literal) (trail : List Step) (d : ℕ) (r : Resolved) (later : List Step) → Ordered 0 r.lits → Ordered 0 (resolve_back clause_of trail d r later).lits
+pub back_ordered : (clause_of : ℕ → List Literal) (trail : List Step) (d : ℕ) (r : Resolved) (later : List Step) → Ordered 0 r.lits → Ordered 0 (resolve_back clause_of trail d r later).lits
 back_ordered clause_of trail d r [] h = h
 back_ordered clause_of trail d r (e ∷ later) h =
     let deep = resolve_back clause_of trail d r later in

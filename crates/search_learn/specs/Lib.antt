@@ -6,4 +6,5 @@ pub mod Rule
 pub mod Engine
 pub mod Cases
 pub mod Values
+pub mod Marks
 pub mod Laws

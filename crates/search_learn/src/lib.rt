@@ -15,10 +15,12 @@ ghost use Rattle.search_learn.specs.Trail.{IsLevels, clause_false, level_of};
 ghost use Rattle.std.specs.List.{list_any};
 
 mod laws;
+mod learner;
 mod moves;
 mod trail;
 
 pub use laws::{runs_end, sat_is_true, trails_follow};
+pub use learner::Learner;
 pub use moves::{assign, is_restart, luby, put_entries, restart};
 use sat_form::{Cnf, Lit};
 use std::alloc::{AllocError, Global};

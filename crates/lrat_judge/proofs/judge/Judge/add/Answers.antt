@@ -17,13 +17,13 @@ shown_empty judged old new verdict last e v l = subst (λ (j : Judged). IsJudged
 shown_kept : (judged : Judged) (old new : Clauses) (verdict : Result Clauses Cause) (last : Bool) → judged ≡ Kept → verdict ≡ Ok new → last ≡ false → IsJudged judged old new verdict last
 shown_kept judged old new verdict last e v l = subst (λ (j : Judged). IsJudged j old new verdict last) (sym e) (v, l)
 
-pub returns-in-Some : goal.returns-in-Some
-returns-in-Some c = (refused c.args.self.now c.self.inside.known c.args.id c.args.lits.items c.deref.result.now c.args.hints.now c.in_ok-cause.field-0 c.self.view_is c.deref.ensures.value c.in_ok-cause.ensures.cause c.in-Some.cause c.in-Some.is, c.self.view_is)
+pub returns-in-Some-clause-judged : goal.returns-in-Some-clause-judged
+returns-in-Some-clause-judged c = (refused c.args.self.now c.self.inside.known c.args.id c.args.lits.items c.deref.result.now c.args.hints.now c.in_ok-cause.field-0 c.self.view_is c.deref.ensures.value c.in_ok-cause.ensures.cause c.in-Some.cause c.in-Some.is, c.self.view_is)
 
-pub returns : goal.returns
-returns c =
+pub returns-clause-judged : goal.returns-clause-judged
+returns-clause-judged c =
     let verdict : judge c.args.self.now (Addition c.args.id c.args.lits.items c.args.hints.now) ≡ Ok c.add.new.self =
-    checked c.args.self.now c.self.inside.known c.args.id c.args.lits.items c.deref.result.now c.args.hints.now c.in_ok-cause.field-0 c.self.view_is c.deref.ensures.value c.in_ok-cause.ensures.cause c.add.new.self c.in_default.is c.in_ok-add.ensures in
+    checked c.args.self.now c.self.inside.known c.args.id c.args.lits.items c.deref.result.now c.args.hints.now c.in_ok-cause.field-0 c.self.view_is c.deref.ensures.value c.in_ok-cause.ensures.cause c.add.new.self c.in_default.is c.in_ok-add.ensures.ok in
     let length_is : vec_len c.args.lits ≡ length c.args.lits.items = omega (arith, ap length c.deref.ensures.value, c.deref.ensures.len) in
     let last : (b : Bool) → c.is_empty.result ≡ b → is_last (Addition c.args.id c.args.lits.items c.args.hints.now) ≡ b =
     (λ b h. last_by_length c.args.id c.args.lits.items c.args.hints.now (vec_len c.args.lits) b length_is (sym c.is_empty.ensures ∙ h)) in

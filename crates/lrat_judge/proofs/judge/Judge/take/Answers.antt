@@ -2,10 +2,10 @@ use Rattle.std.proofs.Common.{rules}
 use Rattle.lrat_lines.specs.Judge.{judge}
 use Rattle.lrat_judge.proofs.judge.Judge.take.Goals as goal
 
-pub returns-in-Skip : goal.returns-in-Skip
+pub returns-in-Skip-clause-judged : goal.returns-in-Skip-clause-judged
 unfolding judge
-returns-in-Skip c = search rules
+returns-in-Skip-clause-judged c = search rules
 
-pub returns-in-Delete : goal.returns-in-Delete
+pub returns-in-Delete-clause-judged : goal.returns-in-Delete-clause-judged
 unfolding judge
-returns-in-Delete c = search rules
+returns-in-Delete-clause-judged c = search rules

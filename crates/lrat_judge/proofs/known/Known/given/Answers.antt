@@ -18,7 +18,7 @@ loop-clause-preserved c =
     let l = slice_get_within c.args.cnf.now.clauses c.loop-clause.at c.in-Some.clause.now (sym c.in-Some.ensures) in
     record {
       within = omega (arith, l);
-      known = one_more_given c.loop-clause.known c.add.new.self c.args.cnf.now.clauses c.loop-clause.at c.in-Some.clause.now c.in_ok-from_slice.field-0.items c.loop-clause.invariant.within (sym c.in-Some.ensures) c.in_ok-from_slice.ensures.items c.loop-clause.invariant.known c.in_ok-add.ensures;
+      known = one_more_given c.loop-clause.known c.add.new.self c.args.cnf.now.clauses c.loop-clause.at c.in-Some.clause.now c.in_ok-from_slice.field-0.items c.loop-clause.invariant.within (sym c.in-Some.ensures) c.in_ok-from_slice.ensures.items c.loop-clause.invariant.known c.in_ok-add.ensures.ok;
     }
 
 pub returns : goal.returns
