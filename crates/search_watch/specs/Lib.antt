@@ -1,0 +1,9 @@
+pub mod Watched
+pub mod Visits
+pub mod Nets
+pub mod RoundUnits
+pub mod Chosen
+pub mod Added
+pub mod Members
+pub mod Kept
+pub mod Cases
