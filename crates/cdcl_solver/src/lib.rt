@@ -16,14 +16,14 @@ ghost use Rattle.cdcl_solver.specs.Progress.{IsSameSearch, log_of, opened, turne
 use lrat_trim::Log;
 use sat_form::Cnf;
 use search_learn::{Learnt, Turn};
-use search_plain::Plain;
+use search_watch::Rounds;
 use std::alloc::{AllocError, Global};
 use std::marker::Model;
 
 /// A search over the clauses that it was made with, up to a budget of steps.
 #[derive(Drop)]
 pub struct Search {
-    plain: Plain,
+    rounds: Rounds,
     log: Log,
     broken: bool,
 }
@@ -37,14 +37,14 @@ impl Model for Search {
     ghost Value = { Progress };
 
     ghost view = { λ s. record {
-      vars = s.plain.vars;
-      clauses = s.plain.clauses;
-      budget = s.plain.budget;
-      machine = record { state = s.plain.state; log = s.log.lines };
+      vars = s.rounds.vars;
+      clauses = s.rounds.clauses;
+      budget = s.rounds.budget;
+      machine = record { state = s.rounds.state; log = s.log.lines };
       broken = s.broken;
     } };
 
-    ghost invariant = { λ s. (s.log.inputs ≡ length s.plain.clauses) × (s.broken ≡ false → IsRunning s.plain s.log) };
+    ghost invariant = { λ s. (s.log.inputs ≡ length s.rounds.clauses) × (s.broken ≡ false → IsRunning s.rounds s.log) };
 }
 
 /// Puts what a step learnt, if it did, into the log.
@@ -69,7 +69,7 @@ impl Search {
         ensures { IfOk result (λ search. search ≡ opened cnf.now.vars cnf.now.clauses budget) }
     {
         Ok(Search {
-            plain: Plain::new(alloc, cnf, budget)?,
+            rounds: Rounds::new(alloc, cnf, budget)?,
             log: Log::new(alloc, cnf.clauses.len() as u64),
             broken: false,
         })
@@ -113,8 +113,8 @@ impl Search {
         ensures kept { OnErr result (IsSameSearch self.old self.new) }
     {
         self.broken = true;
-        let turn = self.plain.step()?;
-        note(&mut self.log, self.plain.last())?;
+        let turn = self.rounds.step()?;
+        note(&mut self.log, self.rounds.last())?;
         self.broken = false;
         Ok(turn)
     }
@@ -130,7 +130,7 @@ impl Search {
         if self.broken {
             return None;
         }
-        self.plain.values()
+        self.rounds.values()
     }
 
     /// What was learnt, in order. After `Unsat` its last line, and no other, is the empty clause, and its trimmed lines
@@ -147,7 +147,7 @@ impl Search {
     pub fn spent(&self) -> u64
         ensures { result ≡ self.now.machine.state.spent }
     {
-        self.plain.spent()
+        self.rounds.spent()
     }
 }
 

@@ -14,7 +14,7 @@ pub note-requires : goal.note-requires
 note-requires c =
     let s = c.self.inside in
     let running = c.self.invariant.1 (rw (← c.self.view_is) at c.requires) in
-    may_note s.plain s.log running c.self.invariant.0 (option_map seen (option_copied c.last.result))
+    may_note s.rounds s.log running c.self.invariant.0 (option_map seen (option_copied c.last.result))
     (sym (c.last.ensures ∙ ap (λ (e : Engine). e.last) c.in_ok-turn.ensures.step))
 
 pub invariant_of-self-2 : goal.invariant_of-self-2
@@ -22,11 +22,11 @@ invariant_of-self-2 c =
     let s = c.self.inside in
     let running = c.self.invariant.1 (rw (← c.self.view_is) at c.requires) in
     let lesson = option_map seen (option_copied c.last.result) in
-    let learnt : (step s.plain.budget s.plain.state).learnt ≡ lesson = sym (c.last.ensures ∙ ap (λ (e : Engine). e.last) c.in_ok-turn.ensures.step) in
+    let learnt : (step s.rounds.budget s.rounds.state).learnt ≡ lesson = sym (c.last.ensures ∙ ap (λ (e : Engine). e.last) c.in_ok-turn.ensures.step) in
     let engine = sym c.in_ok-turn.ensures.step in
     let log = sym c.in_ok-note.ensures.ok in (
       ap (λ (d : Derivation). d.inputs) c.in_ok-note.ensures.ok ∙ c.self.invariant.0 ∙ ap (λ (e : Engine). length e.clauses) engine,
-      λ _. subst (λ (e : Engine). IsRunning e c.note.new.log) engine (subst (λ (d : Derivation). IsRunning (stepped s.plain) d) log (next_running s.plain s.log running c.self.invariant.0 lesson learnt)),
+      λ _. subst (λ (e : Engine). IsRunning e c.note.new.log) engine (subst (λ (d : Derivation). IsRunning (stepped s.rounds) d) log (next_running s.rounds s.log running c.self.invariant.0 lesson learnt)),
     )
 
 pub returns-clause-step : goal.returns-clause-step
@@ -35,13 +35,13 @@ returns-clause-step c =
     let whole = rw (← c.self.view_is) at c.requires in
     let running = c.self.invariant.1 whole in
     let lesson = option_map seen (option_copied c.last.result) in
-    let learnt : (step s.plain.budget s.plain.state).learnt ≡ lesson = sym (c.last.ensures ∙ ap (λ (e : Engine). e.last) c.in_ok-turn.ensures.step) in
+    let learnt : (step s.rounds.budget s.rounds.state).learnt ≡ lesson = sym (c.last.ensures ∙ ap (λ (e : Engine). e.last) c.in_ok-turn.ensures.step) in
     let engine = c.in_ok-turn.ensures.step in
     let log = c.in_ok-note.ensures.ok in
     let moved : ◌≡◌ {A = Progress} (record { vars = c.step.new.self.vars; clauses = c.step.new.self.clauses; budget = c.step.new.self.budget; machine = record { state = c.step.new.self.state; log = c.note.new.log.lines }; broken = false })
-    (record { vars = s.plain.vars; clauses = s.plain.clauses; budget = s.plain.budget; machine = record { state = (step s.plain.budget s.plain.state).state; log = lines_with s.log lesson }; broken = false }) =
+    (record { vars = s.rounds.vars; clauses = s.rounds.clauses; budget = s.rounds.budget; machine = record { state = (step s.rounds.budget s.rounds.state).state; log = lines_with s.log lesson }; broken = false }) =
     λ i. record { vars = (engine i).vars; clauses = (engine i).clauses; budget = (engine i).budget; machine = record { state = (engine i).state; log = (log i).lines }; broken = false } in
     rw (← c.self.view_is)
     (moved
-    ∙ ap (λ (a : Machine). record { vars = s.plain.vars; clauses = s.plain.clauses; budget = s.plain.budget; machine = a; broken = false }) (advanced s.plain s.log running c.self.invariant.0 lesson learnt)
-    ∙ ap (λ b. record { vars = s.plain.vars; clauses = s.plain.clauses; budget = s.plain.budget; machine = advance s.plain.budget (record { state = s.plain.state; log = s.log.lines }); broken = b }) (sym whole))
+    ∙ ap (λ (a : Machine). record { vars = s.rounds.vars; clauses = s.rounds.clauses; budget = s.rounds.budget; machine = a; broken = false }) (advanced s.rounds s.log running c.self.invariant.0 lesson learnt)
+    ∙ ap (λ b. record { vars = s.rounds.vars; clauses = s.rounds.clauses; budget = s.rounds.budget; machine = advance s.rounds.budget (record { state = s.rounds.state; log = s.log.lines }); broken = b }) (sym whole))
