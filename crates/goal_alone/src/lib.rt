@@ -3,14 +3,14 @@
 //! the budget. Every command that solves, prints or checks clauses begins here.
 #![tactic(auto)]
 
-mod certificate;
+pub mod certificate;
 mod cone;
 mod counterexample;
 mod formula;
 mod goal;
 mod reply;
 mod search_end;
-mod solve;
+pub mod solve;
 #[cfg(test)]
 mod tests;
 
