@@ -34,11 +34,64 @@ first_safe (rule ∷ more) all t u fit e = either_cases (Keeps t) (rule t) (firs
 pub rules_safe : Safe (first_fit rules)
 unfolding AllSafe
 rules_safe =
-    first_safe rules (
-      (constant_parts_safe, (undone_safe, (equal_cancelled_safe, (zero_dropped_safe, (zero_kept_safe, (one_dropped_safe, (ones_kept_safe, (equal_joined_safe,
-      (equal_holds_safe, (equal_fails_safe, (shift_by_constant_safe, (shift_by_nothing_safe, (shift_past_width_safe, (decided_choice_safe,
-      (product_by_power_safe, (division_by_zero_safe, (division_by_one_safe, (division_by_power_safe, (same_width_safe,
-      tt))))))))))))))))))))
+    first_safe rules ((
+      constant_parts_safe,
+      (
+        undone_safe,
+        (
+          equal_cancelled_safe,
+          (
+            zero_dropped_safe,
+            (
+              zero_kept_safe,
+              (
+                one_dropped_safe,
+                (
+                  ones_kept_safe,
+                  (
+                    equal_joined_safe,
+                    (
+                      equal_holds_safe,
+                      (
+                        equal_fails_safe,
+                        (
+                          shift_by_constant_safe,
+                          (
+                            shift_by_nothing_safe,
+                            (
+                              shift_past_width_safe,
+                              (
+                                decided_choice_safe,
+                                (
+                                  product_by_power_safe,
+                                  (
+                                    division_by_zero_safe,
+                                    (
+                                      division_by_one_safe,
+                                      (
+                                        division_by_power_safe,
+                                        (
+                                          same_width_safe,
+                                          tt,
+                                        ),
+                                      ),
+                                    ),
+                                  ),
+                                ),
+                              ),
+                            ),
+                          ),
+                        ),
+                      ),
+                    ),
+                  ),
+                ),
+              ),
+            ),
+          ),
+        ),
+      ),
+    ))
 
 step_of : (o : Option Term) (t : Term) → LeavesFit t → ((u : Term) → o ≡ Some u → Keeps t u) → Keeps t (or_itself o t)
 step_of None t l f = keeps_itself t l

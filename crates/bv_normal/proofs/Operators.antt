@@ -123,33 +123,33 @@ pub left_by : {op : Binary} {f : BitVector → BitVector → BitVector} → Vect
 left_by {op} {f} o x y fit law =
     let s = sides op sort.Vector (sort_of x) (sort_of y) o.pair fit.sorted in
     keeps_left op x y fit.leaves (s.left ∙ sym s.all) (λ values v h k.
-        let a = word_of x s.width values s.left fit.leaves.0 v h in
-        let b = word_of y s.width values s.right fit.leaves.1 v k in
-        a.is ∙ (sym (ap Vector (law values (are_words a b))) ∙ sym (o.gives (meaning x values) (meaning y values))))
+    let a = word_of x s.width values s.left fit.leaves.0 v h in
+    let b = word_of y s.width values s.right fit.leaves.1 v k in
+    a.is ∙ (sym (ap Vector (law values (are_words a b))) ∙ sym (o.gives (meaning x values) (meaning y values))))
 
 pub right_by : {op : Binary} {f : BitVector → BitVector → BitVector} → VectorOp op f → (x y : Term) → Fits (binary op x y) → Law x y (λ a b. f a b ≡ b) → Keeps (binary op x y) y
 right_by {op} {f} o x y fit law =
     let s = sides op sort.Vector (sort_of x) (sort_of y) o.pair fit.sorted in
     keeps_right op x y fit.leaves (s.right ∙ sym s.all) (λ values v h k.
-        let a = word_of x s.width values s.left fit.leaves.0 v h in
-        let b = word_of y s.width values s.right fit.leaves.1 v k in
-        b.is ∙ (sym (ap Vector (law values (are_words a b))) ∙ sym (o.gives (meaning x values) (meaning y values))))
+    let a = word_of x s.width values s.left fit.leaves.0 v h in
+    let b = word_of y s.width values s.right fit.leaves.1 v k in
+    b.is ∙ (sym (ap Vector (law values (are_words a b))) ∙ sym (o.gives (meaning x values) (meaning y values))))
 
 pub number_by : {op : Binary} {f : BitVector → BitVector → BitVector} → VectorOp op f → (x y : Term) (n : ℕ) → Fits (binary op x y) → Law x y (λ a b. f a b ≡ of_number a.width n) → Keeps (binary op x y) (number_like x n)
 number_by {op} {f} o x y n fit law =
     let s = sides op sort.Vector (sort_of x) (sort_of y) o.pair fit.sorted in
     keeps_number (binary op x y) x s.width n s.left s.all (λ values v h.
-        let a = word_of x s.width values s.left fit.leaves.0 v h.0 in
-        let b = word_of y s.width values s.right fit.leaves.1 v h.1 in
-        ap (λ w. Vector (of_number w n)) (sym a.width_is) ∙ (sym (ap Vector (law values (are_words a b))) ∙ sym (o.gives (meaning x values) (meaning y values))))
+    let a = word_of x s.width values s.left fit.leaves.0 v h.0 in
+    let b = word_of y s.width values s.right fit.leaves.1 v h.1 in
+    ap (λ w. Vector (of_number w n)) (sym a.width_is) ∙ (sym (ap Vector (law values (are_words a b))) ∙ sym (o.gives (meaning x values) (meaning y values))))
 
 pub truth_by : {op : Binary} {f : BitVector → BitVector → Bool} → TestOp op f → (x y : Term) (t : Bool) → Fits (binary op x y) → Law x y (λ a b. f a b ≡ t) → Keeps (binary op x y) (truth t)
 truth_by {op} {f} o x y t fit law =
     let s = sides op (λ w. sort.Truth) (sort_of x) (sort_of y) o.pair fit.sorted in
     keeps_truth (binary op x y) t s.all (λ values v h.
-        let a = word_of x s.width values s.left fit.leaves.0 v h.0 in
-        let b = word_of y s.width values s.right fit.leaves.1 v h.1 in
-        sym (ap Truth (law values (are_words a b))) ∙ sym (o.gives (meaning x values) (meaning y values)))
+    let a = word_of x s.width values s.left fit.leaves.0 v h.0 in
+    let b = word_of y s.width values s.right fit.leaves.1 v h.1 in
+    sym (ap Truth (law values (are_words a b))) ∙ sym (o.gives (meaning x values) (meaning y values)))
 
 -- an operator on one vector that gives one of the same width
 pub record PartOp (p : Unary) (g : BitVector → BitVector) : Type 0 where
@@ -179,17 +179,17 @@ pub of_left_by : {op : Binary} {f : BitVector → BitVector → BitVector} {p : 
 of_left_by {op} {f} {p} {g} o q x y fit law =
     let s = sides op sort.Vector (sort_of x) (sort_of y) o.pair fit.sorted in
     keeps_of_left op p x y fit.leaves (sort_of_part q x s.width s.left ∙ sym s.all) (λ values v h k.
-        let a = word_of x s.width values s.left fit.leaves.0 v h in
-        let b = word_of y s.width values s.right fit.leaves.1 v k in
-        q.gives (meaning x values) ∙ (sym (ap Vector (law values (are_words a b))) ∙ sym (o.gives (meaning x values) (meaning y values))))
+    let a = word_of x s.width values s.left fit.leaves.0 v h in
+    let b = word_of y s.width values s.right fit.leaves.1 v k in
+    q.gives (meaning x values) ∙ (sym (ap Vector (law values (are_words a b))) ∙ sym (o.gives (meaning x values) (meaning y values))))
 
 pub of_right_by : {op : Binary} {f : BitVector → BitVector → BitVector} {p : Unary} {g : BitVector → BitVector} → VectorOp op f → PartOp p g → (x y : Term) → Fits (binary op x y) → Law x y (λ a b. f a b ≡ g b) → Keeps (binary op x y) (unary p y)
 of_right_by {op} {f} {p} {g} o q x y fit law =
     let s = sides op sort.Vector (sort_of x) (sort_of y) o.pair fit.sorted in
     keeps_of_right op p x y fit.leaves (sort_of_part q y s.width s.right ∙ sym s.all) (λ values v h k.
-        let a = word_of x s.width values s.left fit.leaves.0 v h in
-        let b = word_of y s.width values s.right fit.leaves.1 v k in
-        q.gives (meaning y values) ∙ (sym (ap Vector (law values (are_words a b))) ∙ sym (o.gives (meaning x values) (meaning y values))))
+    let a = word_of x s.width values s.left fit.leaves.0 v h in
+    let b = word_of y s.width values s.right fit.leaves.1 v k in
+    q.gives (meaning y values) ∙ (sym (ap Vector (law values (are_words a b))) ∙ sym (o.gives (meaning x values) (meaning y values))))
 
 same_where : (w : ℕ) → (if w == w then Some (sort.Vector w) else None) ≡ Some (sort.Vector w)
 same_where w = equal_some w w (sort.Vector w) (given (w == w) (number_itself w))
@@ -205,9 +205,9 @@ masked_by {op} {f} o x y n fit law =
     let within = vector_within x s.width s.left in
     let mask : sort_of (constant (of_number s.width n)) ≡ Some (sort.Vector s.width) = vectors_is s.width within.0 within.1 in
     keeps_masked op x y s.width n fit.leaves s.left s.all (ap (λ r. option_and_then (λ t. option_and_then (binary_sort on.And t) (sort_of (constant (of_number s.width n)))) r) s.left ∙ (ap (option_and_then (binary_sort on.And (sort.Vector s.width))) mask ∙ same_where s.width)) (λ values v h k.
-        let a = word_of x s.width values s.left fit.leaves.0 v h in
-        let b = word_of y s.width values s.right fit.leaves.1 v k in
-        ap (λ w. Vector (is.bitwise_and (vector (meaning x values)) (of_number w n))) (sym a.width_is) ∙ (sym (ap Vector (law values (are_words a b))) ∙ sym (o.gives (meaning x values) (meaning y values))))
+    let a = word_of x s.width values s.left fit.leaves.0 v h in
+    let b = word_of y s.width values s.right fit.leaves.1 v k in
+    ap (λ w. Vector (is.bitwise_and (vector (meaning x values)) (of_number w n))) (sym a.width_is) ∙ (sym (ap Vector (law values (are_words a b))) ∙ sym (o.gives (meaning x values) (meaning y values))))
 
 -- one part
 part_sort : {p : Unary} {g : BitVector → BitVector} → PartOp p g → (o : Option Sort) → IsSome (option_and_then (unary_sort p) o) → (w : ℕ) × (o ≡ Some (sort.Vector w))
@@ -230,5 +230,5 @@ pub part_number_by : {p : Unary} {g : BitVector → BitVector} → PartOp p g �
 part_number_by {p} {g} q x n fit law =
     let s = part_sort q (sort_of x) fit.sorted in
     keeps_number (unary p x) x s.0 n s.1 (sort_of_part q x s.0 s.1) (λ values v h.
-        let a = word_of x s.0 values s.1 fit.leaves v h in
-        ap (λ w. Vector (of_number w n)) (sym a.width_is) ∙ (sym (ap Vector (law (vector (meaning x values)) a.fits (s.1 ∙ ap (λ m. Some (sort.Vector m)) (sym a.width_is)))) ∙ sym (q.gives (meaning x values))))
+    let a = word_of x s.0 values s.1 fit.leaves v h in
+    ap (λ w. Vector (of_number w n)) (sym a.width_is) ∙ (sym (ap Vector (law (vector (meaning x values)) a.fits (s.1 ∙ ap (λ m. Some (sort.Vector m)) (sym a.width_is)))) ∙ sym (q.gives (meaning x values))))

@@ -56,7 +56,11 @@ pub(crate) fn binary_built(alloc: Global, op: Binary, x: Expr, y: Expr) -> Resul
 fn choice_node(truths: bool, c: Box<Expr>, x: Box<Expr>, y: Box<Expr>) -> Node
     ensures { term_of result ≡ choice_of truths c.value x.value y.value }
 {
-    if truths { Node::TIf(c, x, y) } else { Node::If(c, x, y) }
+    if truths {
+        Node::TIf(c, x, y)
+    } else {
+        Node::If(c, x, y)
+    }
 }
 
 pub(crate) fn choice_built(

@@ -26,7 +26,10 @@ fn stored_copied(alloc: Global, stored: &Option<Name>) -> Result<Option<Name>, A
     }
 }
 
-fn binders_copied(alloc: Global, binders: &[(Name, Sort)]) -> Result<Items<(Name, Sort)>, AllocError>
+fn binders_copied(
+    alloc: Global,
+    binders: &[(Name, Sort)],
+) -> Result<Items<(Name, Sort)>, AllocError>
     ensures { IfOk result (λ b. b ≡ binders.now) }
 {
     let mut copies = Items::new(alloc);

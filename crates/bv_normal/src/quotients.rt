@@ -61,7 +61,9 @@ fn division_by_power(op: Binary, x: &Expr, y: &Expr) -> Option<Operand>
     ensures { option_map (of_two x.now y.now) result ≡ rule.division_by_power (binary op x.now y.now) }
 {
     match op {
-        Binary::Udiv => Some(Operand::Left(Rewrite::Under(Unary::LshrBy(u128::from(exponent(y)?))))),
+        Binary::Udiv => Some(Operand::Left(Rewrite::Under(Unary::LshrBy(u128::from(exponent(
+            y,
+        )?))))),
         Binary::Umod => Some(Operand::Left(Rewrite::Masked(low_ones(exponent(y)?)))),
         _ => None,
     }

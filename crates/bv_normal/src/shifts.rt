@@ -35,7 +35,9 @@ pub(crate) fn shift_by_nothing(op: Unary, x: &Expr) -> Option<Rewrite>
     ensures { option_map (of_one x.now) result ≡ rule.shift_by_nothing (unary op x.now) }
 {
     match op {
-        Unary::ShlBy(n) | Unary::LshrBy(n) | Unary::AshrBy(n) => (n == 0).then_some(Rewrite::Itself),
+        Unary::ShlBy(n) | Unary::LshrBy(n) | Unary::AshrBy(n) => (n == 0).then_some(
+            Rewrite::Itself,
+        ),
         Unary::RotL(n) | Unary::RotR(n) => is_full_turn(n, x).then_some(Rewrite::Itself),
         _ => None,
     }

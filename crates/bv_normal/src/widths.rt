@@ -15,9 +15,7 @@ pub(crate) fn same_width(op: Unary, x: &Expr) -> Option<Rewrite>
 {
     match op {
         Unary::SetWidth(v) | Unary::SignExtend(v) => (v == width(x)).then_some(Rewrite::Itself),
-        Unary::Extract(start, len) => {
-            (start == 0 && len == width(x)).then_some(Rewrite::Itself)
-        }
+        Unary::Extract(start, len) => { (start == 0 && len == width(x)).then_some(Rewrite::Itself) }
         _ => None,
     }
 }

@@ -1,5 +1,6 @@
 //! Runs over a keeper and a sink in memory: the printed lines, and what a failing device leaves.
 ghost use Rattle.std.specs.Prelude.{Some};
+
 use crate::run_single;
 use bvd_host::{MapKeeper, Sink, SinkStop, VecSink};
 use std::alloc::{AllocError, Global};
