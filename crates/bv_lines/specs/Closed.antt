@@ -5,7 +5,7 @@ use Rattle.bv_expr.specs.declared.ops.Binary.{Binary}
 use Rattle.bv_expr.specs.declared.ops.Binary.TheVariants as on
 use Rattle.bv_expr.specs.Term.{Term, constant, binary}
 use Rattle.bv_expr.specs.Sorts.{sort_of}
-use Rattle.bv_lines.specs.Statement.{Statement}
+use Rattle.bv_expr.specs.Statement.{Statement}
 use Rattle.bv_lines.specs.Lines.{and_then, behind, digits_at, number_at, or_else}
 
 -- a literal: a number of at most 39 digits, `#` and a width of 1 to 128; and what follows it

@@ -1,4 +1,3 @@
-pub mod Statement
 pub mod Lines
 pub mod Closed
 pub mod Progress

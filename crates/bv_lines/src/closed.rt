@@ -4,7 +4,7 @@ ghost use Rattle.bv_expr.specs.Term.{binary, constant, depth};
 ghost use Rattle.bv_expr.specs.Sorts.{sort_of};
 ghost use Rattle.bv_expr.specs.Goal.{variables};
 ghost use Rattle.bv_expr.specs.declared.ops.Sort.TheVariants.{Truth};
-ghost use Rattle.bv_lines.specs.Statement.{statement_of};
+ghost use Rattle.bv_expr.specs.Statement.{statement_of};
 ghost use Rattle.bv_lines.specs.Closed.{equation, example_of, goal_in, literal_at, operator_at, side_at, side_from, typed};
 
 use crate::text::{behind, count_digits, number_at};

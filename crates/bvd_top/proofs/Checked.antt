@@ -3,7 +3,7 @@ use Rattle.std.proofs.Common.{ℕ, List, Some, None}
 use Rattle.std.specs.Prelude.{Option}
 use Rattle.bvd_host.specs.Files.{Files}
 use Rattle.bv_expr.specs.Term.{Term}
-use Rattle.bv_lines.specs.Statement.{Statement}
+use Rattle.bv_expr.specs.Statement.{Statement}
 use Rattle.goal_replies.specs.Certificate.{IsAbsent}
 use Rattle.bvd_report.specs.Report.{Told, Proved, False, Budget, Deep, Large, OutOfMemory, Clauses, Accepted, Refused, NoEmptyClause, AbsentCertificate}
 use Rattle.goal_replies.specs.Checked.{IsCheckedAs, IsChecked}

@@ -3,7 +3,7 @@ use Rattle.std.proofs.Common.{◌≡◌, ℕ, suc, ◌+◌, ◌≤◌, ◌^◌, 
 use Rattle.std.specs.Prelude.{All, Contains}
 use Rattle.bvd_host.specs.Causes.{Rose}
 use Rattle.bvd_host.specs.Files.{Files, file_at}
-use Rattle.bv_lines.specs.Statement.{Statement}
+use Rattle.bv_expr.specs.Statement.{Statement}
 use Rattle.goal_replies.specs.Solved.{IsSolved}
 use Rattle.goal_replies.specs.Checked.{IsChecked}
 use Rattle.goal_replies.specs.Laws.{KeptCertificateIsAccepted}

@@ -4,7 +4,7 @@ use Rattle.std.specs.Prelude.{Option, option_map}
 use Rattle.bvd_host.specs.Files.{Files}
 use Rattle.bvd_host.specs.Causes.{Rose}
 use Rattle.bvd_host.specs.Outside.{Outside, SinkFailed, IsHonest}
-use Rattle.bv_lines.specs.Statement.{Statement}
+use Rattle.bv_expr.specs.Statement.{Statement}
 use Rattle.bvd_words.specs.Requests.{Command, Prove, Alone, Check, Cnf, Request}
 use Rattle.bvd_report.specs.Report.{Told, Proved, False, Budget, Deep, Large, OutOfMemory, Clauses, Accepted, Refused, NoEmptyClause, AbsentCertificate, Line, Found, Part, certificate_name, goals_of, report, certificates, status_of, found_status, goals_status, told_status}
 use Rattle.bvd_top.specs.Words.{usage}

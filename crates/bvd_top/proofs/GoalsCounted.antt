@@ -4,7 +4,7 @@ use Rattle.std.specs.Prelude.{⊤, ◌&&◌, Option, option_map, nat_le, if◌th
 use Rattle.std.proofs.lemmas.Bool.Decides.{nat_tests}
 use Rattle.bvd_host.specs.Files.{Files, file_at}
 use Rattle.bv_lines.specs.Lines.{and_then, lines_of}
-use Rattle.bv_lines.specs.Statement.{Statement}
+use Rattle.bv_expr.specs.Statement.{Statement}
 use Rattle.goal_files.specs.Files.{goal_on, goals_on, goals_in}
 use Rattle.bvd_top.specs.Stated.{Read, AreRead, stated_of, stated_in, goals_stated}
 

@@ -1,6 +1,6 @@
 -- What the code's values stand for.
 use Rattle.std.specs.Prelude.{List, map}
-use Rattle.bv_lines.specs.Statement.{statement_of}
+use Rattle.bv_expr.specs.Statement.{statement_of}
 use Rattle.bvd_top.specs.declared.finding.Stated.{Stated}
 use Rattle.bvd_top.specs.declared.finding.Stated.TheVariants.{Absent, NotYet, Goals}
 use Rattle.bvd_top.specs.declared.finding.Read.{Read}

@@ -1,7 +1,7 @@
 -- What the files of a run state.
 use Rattle.std.specs.Prelude.{◌≡◌, ◌⊎◌, ◌≤◌, ℕ, List, [], ◌∷◌, Option, Some, None, ⊤, length}
 use Rattle.bvd_host.specs.Files.{Files, file_at}
-use Rattle.bv_lines.specs.Statement.{Statement}
+use Rattle.bv_expr.specs.Statement.{Statement}
 use Rattle.goal_files.specs.Files.{goals_in}
 
 -- what a file states: it isn't there, it isn't in the form, or its goals

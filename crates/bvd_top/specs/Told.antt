@@ -2,7 +2,7 @@
 use Rattle.std.specs.Prelude.{◌≡◌, ℕ, ◌+◌, List, [], ◌∷◌, Option, ⊤}
 use Rattle.bvd_host.specs.Files.{Files}
 use Rattle.bvd_words.specs.Requests.{Command, Prove, Alone, Check, Cnf, Request}
-use Rattle.bv_lines.specs.Statement.{Statement}
+use Rattle.bv_expr.specs.Statement.{Statement}
 use Rattle.bvd_report.specs.Report.{Told, Line, certificate_name}
 use Rattle.goal_replies.specs.Solved.{IsSolved}
 use Rattle.goal_replies.specs.Checked.{IsChecked}

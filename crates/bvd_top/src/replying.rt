@@ -1,7 +1,7 @@
 //! The replies of a run, in order of goals. Each is numbered by its place in the run, which names its certificate.
 ghost use Rattle.std.specs.Prelude.{◌≡◌, ◌≤◌, ◌<◌, ◌^◌, ◌+◌, All, map, length, IfOk, IsErrOf};
 ghost use Rattle.bvd_host.specs.Causes.{Rose, HasCause};
-ghost use Rattle.bv_lines.specs.Statement.{statement_of};
+ghost use Rattle.bv_expr.specs.Statement.{statement_of};
 ghost use Rattle.bvd_words.specs.Asked.{command_shown, request_shown};
 ghost use Rattle.goal_files.specs.Files.{IsDecidable};
 ghost use Rattle.bvd_report.specs.Report.{all_goals, certificate_name, goals_of};

@@ -8,8 +8,8 @@ use Rattle.sat_form.specs.Truth.{HaveNoValues}
 use Rattle.lrat_lines.specs.Replay.{TextComesTo}
 use Rattle.lrat_lines.specs.Replay.Verdict.{Accepted}
 use Rattle.goal_alone.specs.Satisfying.{IsSatisfiable, IsFalsifiable}
-use Rattle.goal_alone.specs.declared.reply.Reply.{Reply}
-use Rattle.goal_alone.specs.declared.reply.Reply.TheVariants as reply
+use Rattle.goal_reply.specs.declared.reply.Reply.{Reply}
+use Rattle.goal_reply.specs.declared.reply.Reply.TheVariants as reply
 use Rattle.goal_alone.specs.Told.{IfProved}
 
 pub map_proved : (r : Reply) (P Q : List ℕ → Type 0) → ((text : List ℕ) → P text → Q text) → IfProved r P → IfProved r Q

@@ -1,8 +1,8 @@
 -- What a reply says.
 use Rattle.std.specs.Prelude.{◌≡◌, ℕ, List}
 use Rattle.bv_expr.specs.declared.ops.Val.{Val}
-use Rattle.goal_alone.specs.declared.reply.Reply.{Reply}
-use Rattle.goal_alone.specs.declared.reply.Reply.TheVariants as reply
+use Rattle.goal_reply.specs.declared.reply.Reply.{Reply}
+use Rattle.goal_reply.specs.declared.reply.Reply.TheVariants as reply
 use Rattle.goal_alone.specs.Alone.{Answer}
 use Rattle.goal_alone.specs.Alone as answer
 

@@ -9,7 +9,7 @@ ghost use Rattle.goal_alone.specs.Alone.{alone as answer, solved};
 ghost use Rattle.goal_alone.specs.Told.{IfFalse, IfProved, IsAnswer};
 
 use crate::formula::{Formula, FormulaStop, formula_of};
-use crate::reply::Reply;
+use goal_reply::Reply;
 use crate::search_end::reply_of;
 use crate::solve::solve;
 use bv_expr::Goal;

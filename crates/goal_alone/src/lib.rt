@@ -8,7 +8,6 @@ mod cone;
 mod counterexample;
 mod formula;
 mod goal;
-mod reply;
 mod search_end;
 pub mod solve;
 #[cfg(test)]
@@ -17,5 +16,5 @@ mod tests;
 pub use cone::cone_of;
 pub use formula::{Formula, FormulaStop, formula_of};
 pub use goal::alone;
-pub use reply::{Outcome, Reply};
+pub use goal_reply::{Outcome, Reply};
 pub use search_end::reply_of;

@@ -12,7 +12,7 @@ ghost use Rattle.goal_alone.specs.Told.{IfFalse, IfProved, IsAnswer};
 
 use crate::certificate::certificate;
 use crate::counterexample::counterexample;
-use crate::reply::Reply;
+use goal_reply::Reply;
 use bv_expr::{Expr, Goal};
 use cdcl_solver::Search;
 use cone_walk::Cone;

@@ -4,7 +4,7 @@ use Rattle.bv_expr.specs.Propositional.{IsPropositional}
 use Rattle.bv_expr.specs.declared.goal.Goal.{Goal}
 use Rattle.bv_lines.specs.Closed as closed
 use Rattle.bv_lines.specs.Lines.{and_then, lines_of, or_else}
-use Rattle.bv_lines.specs.Statement.{Statement}
+use Rattle.bv_expr.specs.Statement.{Statement}
 use Rattle.truth_lines.specs.Truths as truths
 
 -- the goal of a line, which states a closed equation or a truth

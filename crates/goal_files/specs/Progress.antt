@@ -1,6 +1,6 @@
 -- How far a file's lines are read: a line's part in the goals of the file.
 use Rattle.std.specs.Prelude.{◌≡◌, Bool, true, false, ℕ, List, ◌∷◌, ◌++◌, Option, None, option_map}
-use Rattle.bv_lines.specs.Statement.{Statement}
+use Rattle.bv_expr.specs.Statement.{Statement}
 use Rattle.goal_files.specs.Files.{goals_on}
 
 -- goals before others that may not be there

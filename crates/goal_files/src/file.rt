@@ -1,6 +1,6 @@
 //! Files of goals, read line by line in one pass: nothing behind the first line that isn't in the form is read.
 ghost use Rattle.std.specs.Prelude.{◌≡◌, ◌≤◌, ◌+◌, All, IfOk, IfSome, option_map, length, map, vec_len};
-ghost use Rattle.bv_lines.specs.Statement.{statement_of};
+ghost use Rattle.bv_expr.specs.Statement.{statement_of};
 ghost use Rattle.goal_files.specs.Files.{IsDecidable, goal_on, goals_in};
 ghost use Rattle.goal_files.specs.Progress.{IsLineRead};
 

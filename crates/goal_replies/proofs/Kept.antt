@@ -5,7 +5,7 @@ use Rattle.bvd_host.specs.Causes.{Rose}
 use Rattle.bvd_host.specs.Files.{Files, file_at}
 use Rattle.bv_expr.specs.Term.{Term, truth}
 use Rattle.bv_expr.specs.Goal.{Binders}
-use Rattle.bv_lines.specs.Statement.{Statement}
+use Rattle.bv_expr.specs.Statement.{Statement}
 use Rattle.lrat_lines.specs.Judge.{given}
 use Rattle.lrat_lines.specs.Replay.{Verdict, TextComesTo, lines_within}
 use Rattle.lrat_lines.proofs.Verdicts.{one_verdict}

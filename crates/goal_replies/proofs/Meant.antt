@@ -8,7 +8,7 @@ use Rattle.bv_expr.specs.Meaning.{is_true}
 use Rattle.bv_expr.specs.Goal.{Binders, AreValues, Falsifies, IsValid, MeansTrue}
 use Rattle.bv_expr.proofs.Over.{empty_fits}
 use Rattle.bv_expr.specs.Propositional.{is_propositional, IsPropositional}
-use Rattle.bv_lines.specs.Statement.{Statement}
+use Rattle.bv_expr.specs.Statement.{Statement}
 use Rattle.bvd_report.specs.Report.{Told, Proved, False, Budget, Deep, Large, OutOfMemory, Clauses, Accepted, Refused, NoEmptyClause, AbsentCertificate}
 use Rattle.goal_alone.specs.Satisfying.{IsFalsifiable}
 use Rattle.goal_replies.specs.Decided.{IsItsTruth}

@@ -5,7 +5,7 @@ use Rattle.bvd_host.specs.Files.{Files}
 use Rattle.bv_expr.specs.declared.ops.Val.{Val}
 use Rattle.bv_expr.specs.Term.{Term}
 use Rattle.bv_expr.specs.Goal.{Binders, AreValues, Falsifies, IsValid}
-use Rattle.bv_lines.specs.Statement.{Statement}
+use Rattle.bv_expr.specs.Statement.{Statement}
 use Rattle.bv_print.specs.Values.{values_text}
 use Rattle.bvd_report.specs.Report.{Told, False, OutOfMemory}
 use Rattle.sat_form.specs.Literals.{Literal}

@@ -3,7 +3,7 @@ use Rattle.std.specs.Prelude.{◌≡◌, ℕ, List, Option, ⊤}
 use Rattle.bvd_host.specs.Files.{Files}
 use Rattle.bv_expr.specs.Term.{Term}
 use Rattle.bv_expr.specs.Goal.{IsValid}
-use Rattle.bv_lines.specs.Statement.{Statement}
+use Rattle.bv_expr.specs.Statement.{Statement}
 use Rattle.lrat_lines.specs.Replay.{Verdict}
 use Rattle.goal_replies.specs.Certificate.{IsReplayed, IsAbsent}
 use Rattle.goal_alone.specs.Ends.{Made, TooDeep, TooMany}

@@ -4,7 +4,7 @@ use Rattle.bv_expr.specs.Term.{Term}
 use Rattle.sat_form.specs.Dimacs.{dimacs_text}
 use Rattle.goal_alone.specs.Ends.{Made, TooDeep, TooMany}
 use Rattle.goal_alone.specs.Formula.{goal_clauses, goal_end, goal_variables}
-use Rattle.bv_lines.specs.Statement.{Statement}
+use Rattle.bv_expr.specs.Statement.{Statement}
 use Rattle.bvd_report.specs.Report.{Told, Proved, False, Budget, Deep, Large, OutOfMemory, Clauses, Accepted, Refused, NoEmptyClause, AbsentCertificate}
 use Rattle.goal_replies.specs.Decided.{IsDecidedAs}
 use Rattle.goal_alone.specs.Satisfying.{IsSatisfiable, IsFalsifiable}

@@ -3,7 +3,7 @@ use Rattle.std.specs.Prelude.{◌≡◌, ◌⊎◌, ◌↔◌, Bool, IsTrue, not
 use Rattle.bv_expr.specs.Term.{Term, truth}
 use Rattle.bv_expr.specs.Goal.{Falsifies}
 use Rattle.bv_expr.specs.Propositional.{IsPropositional}
-use Rattle.bv_lines.specs.Statement.{Statement}
+use Rattle.bv_expr.specs.Statement.{Statement}
 
 -- A goal of truths alone is decided as it stands.
 pub record IsItself (goal : Statement) (hyps : List Term) (concl : Term) : Type 0 where

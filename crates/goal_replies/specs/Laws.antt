@@ -2,7 +2,7 @@
 use Rattle.std.specs.Prelude.{◌≡◌, ◌⊎◌, ℕ, List, Some}
 use Rattle.bvd_host.specs.Causes.{Rose}
 use Rattle.bvd_host.specs.Files.{Files, file_at}
-use Rattle.bv_lines.specs.Statement.{Statement}
+use Rattle.bv_expr.specs.Statement.{Statement}
 use Rattle.bvd_report.specs.Report.{Told, Proved, Accepted, OutOfMemory}
 use Rattle.goal_replies.specs.Solved.{IsSolved}
 use Rattle.goal_replies.specs.Checked.{IsChecked}

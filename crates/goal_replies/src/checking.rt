@@ -2,7 +2,7 @@
 ghost use Rattle.std.specs.Prelude.{◌≡◌, ◌≤◌, ◌⊎◌, [], IfOk};
 ghost use Rattle.bvd_host.specs.Causes.{Rose, HasCause};
 ghost use Rattle.bv_expr.specs.Propositional.{IsPropositional};
-ghost use Rattle.bv_lines.specs.Statement.{statement_of};
+ghost use Rattle.bv_expr.specs.Statement.{statement_of};
 ghost use Rattle.bvd_report.specs.Shown.{told_shown};
 ghost use Rattle.goal_replies.specs.Checked.{IsCheckedAs, IsChecked};
 ghost use Rattle.goal_replies.specs.Outcome.{checked_told};

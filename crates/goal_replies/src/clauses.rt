@@ -1,7 +1,7 @@
 //! What `cnf` tells of a goal: the text of its clauses.
 ghost use Rattle.std.specs.Prelude.{◌≡◌, ◌⊎◌, [], IfOk};
 ghost use Rattle.bv_expr.specs.Propositional.{IsPropositional};
-ghost use Rattle.bv_lines.specs.Statement.{statement_of};
+ghost use Rattle.bv_expr.specs.Statement.{statement_of};
 ghost use Rattle.bvd_report.specs.Shown.{told_shown};
 ghost use Rattle.goal_replies.specs.Clauses.{AreClauses, IsClausesTold};
 

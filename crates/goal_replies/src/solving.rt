@@ -2,7 +2,7 @@
 ghost use Rattle.std.specs.Prelude.{◌≡◌, ◌≤◌, ◌^◌, ◌⊎◌, []};
 ghost use Rattle.bv_expr.specs.Goal.{AreValues, Falsifies};
 ghost use Rattle.bv_expr.specs.Propositional.{IsPropositional};
-ghost use Rattle.bv_lines.specs.Statement.{statement_of};
+ghost use Rattle.bv_expr.specs.Statement.{statement_of};
 ghost use Rattle.bvd_report.specs.Report.{Told as told, False, OutOfMemory};
 ghost use Rattle.bvd_report.specs.Shown.{told_shown};
 ghost use Rattle.bv_print.specs.Values.{values_text};

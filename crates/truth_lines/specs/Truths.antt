@@ -5,7 +5,7 @@ use Rattle.bv_expr.specs.declared.ops.Binary.TheVariants as on
 use Rattle.bv_expr.specs.declared.ops.Sort.TheVariants as sort
 use Rattle.bv_expr.specs.Term.{Term, truth, truth_variable, unary, binary}
 use Rattle.bv_lines.specs.Lines.{and_then, behind}
-use Rattle.bv_lines.specs.Statement.{Statement}
+use Rattle.bv_expr.specs.Statement.{Statement}
 use Rattle.truth_lines.specs.declared.terms.Operator.{Operator}
 use Rattle.truth_lines.specs.declared.terms.Operator.TheVariants as op
 use Rattle.truth_lines.specs.Readings.{Text, then_or, word_at, binders_at, title_at}

@@ -2,7 +2,7 @@
 ghost use Rattle.std.specs.Prelude.{◌≡◌, ◌≤◌, IsTrue, IfOk, IfSome, map, option_map, length};
 ghost use Rattle.bv_expr.specs.Propositional.{IsPropositional};
 ghost use Rattle.bv_expr.specs.declared.ops.Sort.TheVariants.{Truth};
-ghost use Rattle.bv_lines.specs.Statement.{statement_of};
+ghost use Rattle.bv_expr.specs.Statement.{statement_of};
 ghost use Rattle.truth_lines.specs.Fits.{IsTruthBelow};
 ghost use Rattle.truth_lines.specs.Readings.{are_different};
 ghost use Rattle.truth_lines.specs.Truths.{goal_in, goal_of};

@@ -1,7 +1,7 @@
 use Rattle.std.proofs.Common.{◌≡◌, ◌∙◌, ◌+◌, ◌∷◌, ◌++◌, [], map, arith, ap, length, length-append}
 use Rattle.std.proofs.lemmas.List.{map-append, length-map}
 use Rattle.bvd_host.specs.Causes.{Rose}
-use Rattle.bv_lines.specs.Statement.{statement_of}
+use Rattle.bv_expr.specs.Statement.{statement_of}
 use Rattle.bvd_words.specs.Asked.{request_shown}
 use Rattle.bvd_report.specs.Shown.{line_shown, lines_shown}
 use Rattle.bvd_top.proofs.GoalsTold.{lines_count, told_next}

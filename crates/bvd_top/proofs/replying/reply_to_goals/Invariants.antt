@@ -1,6 +1,6 @@
 use Rattle.std.proofs.Common.{◌≡◌, ◌≤◌, ◌+◌, map, length}
 use Rattle.bvd_host.specs.Causes.{Rose}
-use Rattle.bv_lines.specs.Statement.{statement_of}
+use Rattle.bv_expr.specs.Statement.{statement_of}
 use Rattle.bvd_words.specs.Asked.{request_shown}
 use Rattle.bvd_report.specs.Shown.{lines_shown}
 use Rattle.bvd_top.specs.Told.{AreTold}

@@ -1,7 +1,7 @@
 use Rattle.std.proofs.Common.{◌≡◌, ap, subst}
 use Rattle.std.specs.Prelude.{IfOk, Option, option_map}
 use Rattle.bv_lines.specs.Lines.{or_else}
-use Rattle.bv_lines.specs.Statement.{Statement, statement_of}
+use Rattle.bv_expr.specs.Statement.{Statement, statement_of}
 use Rattle.truth_lines.specs.Truths as truths
 use Rattle.goal_files.specs.Files.{goal_on}
 use Rattle.goal_files.proofs.file.goal_on.Goals as goal

@@ -1,6 +1,6 @@
 use Rattle.std.proofs.Common.{◌≡◌, ◌+◌, ◌≤◌, length, map, All}
 use Rattle.bv_lines.specs.Lines.{lines_of}
-use Rattle.bv_lines.specs.Statement.{statement_of}
+use Rattle.bv_expr.specs.Statement.{statement_of}
 use Rattle.goal_files.specs.Files.{IsDecidable, goals_on}
 use Rattle.goal_files.specs.Progress.{before}
 use Rattle.goal_files.proofs.file.goals_in.Given as goal

@@ -1,7 +1,7 @@
 use Rattle.std.proofs.Common.{ap}
 use Rattle.std.specs.Prelude.{Ok}
 use Rattle.bvd_host.specs.Causes.{Rose}
-use Rattle.bv_lines.specs.Statement.{statement_of}
+use Rattle.bv_expr.specs.Statement.{statement_of}
 use Rattle.goal_replies.proofs.Outcomes.{told_outcome, valid_of_none}
 use Rattle.goal_replies.proofs.checking.checked.Goals as goal
 

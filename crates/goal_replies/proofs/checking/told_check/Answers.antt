@@ -1,7 +1,7 @@
 use Rattle.std.proofs.Common.{[], inr, refl}
 use Rattle.bvd_host.specs.Causes.{Rose}
 use Rattle.bv_expr.specs.Term.{truth}
-use Rattle.bv_lines.specs.Statement.{statement_of}
+use Rattle.bv_expr.specs.Statement.{statement_of}
 use Rattle.bvd_report.specs.Shown.{told_shown}
 use Rattle.goal_replies.specs.Decided.{IsItsTruth}
 use Rattle.goal_replies.specs.Checked.{IsCheckedAs, IsChecked}

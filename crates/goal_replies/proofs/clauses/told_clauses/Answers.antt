@@ -1,4 +1,4 @@
-use Rattle.bv_lines.specs.Statement.{statement_of}
+use Rattle.bv_expr.specs.Statement.{statement_of}
 use Rattle.bvd_report.specs.Shown.{told_shown}
 use Rattle.goal_replies.specs.Decided.{IsItsTruth}
 use Rattle.goal_replies.specs.Clauses.{AreClauses, IsClausesTold}
