@@ -16,6 +16,7 @@ mod token;
 pub use cutting::lex;
 pub use fault::{Fault, FaultKind, What};
 pub use laws::one_cut;
+pub use places::end_place;
 pub use token::{Token, TokenKind};
 
 #[cfg(test)]

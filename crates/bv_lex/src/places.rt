@@ -41,3 +41,11 @@ pub(crate) fn place_at(bytes: &[u8], from: usize, to: usize, place: Place) -> Pl
     }
     place
 }
+
+/// The place behind the last byte of a file of at most 4,194,304 bytes. Takes time by its length.
+pub fn end_place(bytes: &[u8]) -> Place
+    requires { length bytes.now ≤ 4194304 }
+    ensures { result ≡ place_behind bytes.now }
+{
+    place_at(bytes, 0, bytes.len(), Place { line: 1, column: 1 })
+}

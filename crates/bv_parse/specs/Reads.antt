@@ -10,12 +10,16 @@ use Rattle.bv_lex.specs.declared.fault.FaultKind.TheVariants as kind
 use Rattle.bv_lex.specs.Cut.{AreTokens, IsTokenFault}
 use Rattle.bv_grammar.specs.declared.words.Terminal.{Terminal}
 use Rattle.bv_grammar.specs.Derivation.{IsSyntaxFault}
-use Rattle.bv_terminals.specs.Spellings.{terminals_of}
+use Rattle.bv_terminals.specs.Spellings.{terminal_of}
 use Rattle.bv_trees.specs.Trees.{Goal}
 use Rattle.bv_trees.specs.Files.{AreGoals}
 use Rattle.bv_limits.specs.Limits.{IsFirstLimit, IsWithinLimits}
 use Rattle.bv_expr.specs.Statement.{Statement}
 use Rattle.bv_typing.specs.Goals.{States, Misfit, file_misfits, least}
+
+-- the terminals of a file's tokens
+abbrev pub terminals_of : List ℕ → List Token → List Terminal
+terminals_of bytes tokens = map (terminal_of bytes) tokens
 
 -- the place of a token; behind the last one it is the end of the file
 abbrev pub place_of : List ℕ → Option Token → Place

@@ -1,6 +1,6 @@
 -- What the trees of a goal read as: of which kind each is, and which term. A bare part is read at a width that stands beside
 -- it or is written behind it.
-use Rattle.std.specs.Prelude.{ℕ, ◌+◌, ◌-◌, Bool, true, false, nat_le, if◌then◌else◌, List, [], ◌∷◌, ◌++◌, Option, Some, None, option_map, option_and_then}
+use Rattle.std.specs.Prelude.{ℕ, zero, suc, ◌+◌, ◌-◌, Bool, true, false, nat_le, if◌then◌else◌, List, [], ◌∷◌, ◌++◌, Option, Some, None, option_map, option_and_then}
 use Rattle.bv_value.specs.BitVector.{BitVector, of_number}
 use Rattle.bv_grammar.specs.declared.words.Word.{Word}
 use Rattle.bv_grammar.specs.declared.words.Word.TheVariants as words
@@ -8,6 +8,7 @@ use Rattle.bv_expr.specs.declared.ops.Sort.{Sort}
 use Rattle.bv_expr.specs.declared.ops.Sort.TheVariants.{Truth, Vector}
 use Rattle.bv_expr.specs.declared.ops.Unary.{Unary}
 use Rattle.bv_expr.specs.declared.ops.Unary.TheVariants as of
+use Rattle.bv_expr.specs.declared.ops.Binary.{Binary}
 use Rattle.bv_expr.specs.declared.ops.Binary.TheVariants as on
 use Rattle.bv_expr.specs.Term.{Term, constant, variable, truth, truth_variable, unary, binary, choice, truth_choice}
 use Rattle.bv_expr.specs.Sorts.{vectors}
@@ -161,10 +162,13 @@ abbrev pub sort_in : Option Kind → Sort
 sort_in (Some (kind.Sorted s)) = s
 sort_in _ = Vector 0
 
+abbrev pub joined_by : Word → Option Binary → Term → Term → Term
+joined_by o (Some op) x y = negated o (if is_turned o then binary op y x else binary op x y)
+-- no operator
+joined_by o None x y = x
+
 abbrev pub joined : Word → Option Kind → Term → Term → Term
-joined o k x y with binary_of o (sort_in k)
-... | Some op = negated o (if is_turned o then binary op y x else binary op x y)
-... | None = x
+joined o k x y = joined_by o (binary_of o (sort_in k)) x y
 
 -- where its right part is a numeral, a shift is one by a number
 abbrev pub infix_term : Word → Option Kind → Option Kind → Term → Term → Term
