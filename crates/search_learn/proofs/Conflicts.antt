@@ -33,6 +33,7 @@ pub record IsMet (clause_of : ℕ → List Literal) (trail : List Step) (d : ℕ
   pub falsified : is_false (assigned trail) (negate e.lit) ≡ true
   pub level_is : level_of trail (negate e.lit) ≡ e.level
   pub others : is_resolved clause_of trail d (resolve_back clause_of trail d start (drop (i + 1) trail)).lits e ≡ true → AreFalse trail (without (clause_of e.reason) e.lit)
+  pub earlier : is_resolved clause_of trail d (resolve_back clause_of trail d start (drop (i + 1) trail)).lits e ≡ true → AreFalse (take i trail) (without (clause_of e.reason) e.lit)
 
 module _ (clause_of : ℕ → List Literal) (vars : ℕ) (trail : List Step) (d id : ℕ) (machine : IsTrail clause_of vars trail) (current : d ≡ level trail) (conflict : clause_false trail (clause_of id) ≡ true) where
   abbrev pub begun : Resolved
@@ -49,11 +50,8 @@ module _ (clause_of : ℕ → List Literal) (vars : ℕ) (trail : List Step) (d 
       record {
         falsified = ap (member (assigned trail)) (negate_twice e.lit) ∙ ap (λ (t : List Step). member (assigned t) e.lit) (split ∙ sym (append_assoc front (e ∷ []) later)) ∙ assigned_append (front ++ e ∷ []) later e.lit (assigned_last front e);
         level_is = level_entry clause_of vars trail front later e split follows;
-        others = λ resolved.
-            let reasoned = are_reasoned clause_of vars trail d begun [] trail refl machine (λ k none. absurd_bool none) current start_falsified in
-            let some = reasoned_at clause_of trail d begun trail i e reasoned inside is (ap (λ n. is_resolved clause_of trail d (resolve_back clause_of trail d begun (drop n trail)).lits e) (let s : suc i ≡ i + 1 = omega arith in s) ∙ resolved) in
-            λ l has. ap (λ (t : List Step). is_false (assigned t) l) split
-            ∙ assigned_append front (e ∷ later) (negate l) (member_all (is_false (assigned front)) (without (clause_of e.reason) e.lit) l (others_false (assigned front) (clause_of e.reason) e.lit (follows.implied some)) has);
+        others = λ resolved l has. ap (λ (t : List Step). is_false (assigned t) l) split ∙ assigned_append front (e ∷ later) (negate l) (implied_by resolved l has);
+        earlier = implied_by;
       }
     where
       front : List Step
@@ -67,3 +65,9 @@ module _ (clause_of : ℕ → List Literal) (vars : ℕ) (trail : List Step) (d 
 
       follows : EntryFollows clause_of vars front e
       follows = continues_at clause_of vars [] trail i e machine inside is
+
+      implied_by : is_resolved clause_of trail d (resolve_back clause_of trail d begun (drop (i + 1) trail)).lits e ≡ true → AreFalse front (without (clause_of e.reason) e.lit)
+      implied_by resolved l has =
+          let reasoned = are_reasoned clause_of vars trail d begun [] trail refl machine (λ k none. absurd_bool none) current start_falsified in
+          let some = reasoned_at clause_of trail d begun trail i e reasoned inside is (ap (λ n. is_resolved clause_of trail d (resolve_back clause_of trail d begun (drop n trail)).lits e) (let s : suc i ≡ i + 1 = omega arith in s) ∙ resolved) in
+          member_all (is_false (assigned front)) (without (clause_of e.reason) e.lit) l (others_false (assigned front) (clause_of e.reason) e.lit (follows.implied some)) has

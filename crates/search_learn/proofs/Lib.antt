@@ -23,3 +23,6 @@ pub mod Lessons
 pub mod Hints
 pub mod Counted
 pub mod Runs
+pub mod Raising
+pub mod Steps
+pub mod Held

@@ -3,14 +3,14 @@ use Rattle.std.proofs.Common.{◌≡◌, ◌≢◌, ℕ, zero, suc, ◌+◌, ◌
 use Rattle.std.specs.List.{list_any}
 use Rattle.std.proofs.lemmas.Bool.{cases_Bool, cases_eq}
 use Rattle.std.proofs.lemmas.List.{append-nil, append_assoc}
-use Rattle.sat_form.specs.Literals.{Literal, member, same_literal, same_sign, stands_before, negate, put, without}
+use Rattle.sat_form.specs.Literals.{Literal, member, same_literal, same_sign, stands_before, negate, put, put_all, without}
 use Rattle.sat_form.specs.Assignment.{is_false}
 use Rattle.sat_form.proofs.Sets as sets
 use Rattle.search_learn.specs.declared.Step.{Step}
 use Rattle.search_learn.specs.Rule.{Continues}
 use Rattle.search_learn.specs.Trail.{assigned, is_assigned, level_of}
 use Rattle.search_learn.specs.Values.{AreLevels, IsOfMachine}
-use Rattle.search_learn.specs.Marks.{AreClear, AreMarks}
+use Rattle.search_learn.specs.Marks.{AreClear, AreMarks, AreMarksOf}
 use Rattle.search_learn.proofs.Decisions.{clash}
 use Rattle.search_learn.proofs.Keeps.{in_range}
 use Rattle.search_learn.proofs.Ordered.{put_ordered, without_ordered}
@@ -102,6 +102,13 @@ put_other s l k d = elim (cases_Bool (member s k)) as (λ _. member (put s l) k 
   ]
 ]
 
+-- What isn't put in is a member where it was one.
+pub put_all_other : (s ls : List Literal) (k : Literal) → (member ls k ≡ true → ⊥) → member (put_all s ls) k ≡ member s k
+put_all_other s [] k new = refl
+put_all_other s (l ∷ ls) k new =
+    put_all_other (put s l) ls k (λ has. new (sets.either_right (same_literal k l) (member ls k) has))
+    ∙ put_other s l k (λ is. new (sets.either_left (same_literal k l) (member ls k) (ap (λ (x : Literal). same_literal x l) is ∙ sets.same_itself l)))
+
 without_keeps : (s : List Literal) (l k : Literal) → k ≢ l → member s k ≡ true → member (without s l) k ≡ true
 without_keeps [] l k d h = absurd (cc)
 without_keeps (j ∷ s) l k d h = elim (same_literal l j) as (λ b. same_literal l j ≡ b → member (cond (not b) (j ∷ without s l) (without s l)) k ≡ true) [
@@ -115,7 +122,7 @@ without_keeps (j ∷ s) l k d h = elim (same_literal l j) as (λ b. same_literal
   ]
 ] refl
 
-without_other : (s : List Literal) (l k : Literal) → k ≢ l → member (without s l) k ≡ member s k
+pub without_other : (s : List Literal) (l k : Literal) → k ≢ l → member (without s l) k ≡ member s k
 without_other s l k d = elim (cases_Bool (member s k)) as (λ _. member (without s l) k ≡ member s k) [
   | inl h ↦ without_keeps s l k d h ∙ sym h
   | inr h ↦ elim (cases_Bool (member (without s l) k)) as (λ _. member (without s l) k ≡ member s k) [
@@ -163,6 +170,29 @@ module _ (t : List Step) (marks : List Bool) (s : List Literal) (l : Literal) (m
         (rw get_or-set_other refl) ∙ marked k bad ∙ sym (without_other s l k (λ e. d (ap (λ (x : Literal). x.var) e)))
   ]
 
+-- A mark more is of the literal that comes in, and a literal that goes takes its mark along.
+only_put : (marks : List Bool) (s : List Literal) (l : Literal) → AreMarksOf marks s → AreMarksOf (set marks (l.var - 1) true) (put s l)
+only_put marks s l only = λ i on. elim (cases_eq i (l.var - 1)) as (λ _. (k : Literal) × (member (put s l) k ≡ true) × (k.var - 1 ≡ i)) [
+  | inl e ↦ (l, put_here s l, sym e)
+  | inr d ↦
+      let apart : i ≢ l.var - 1 = d in
+      let same : get_or (set marks (l.var - 1) true) i false ≡ get_or marks i false = rw get_or-set_other refl in
+      let old = only i (sym same ∙ on) in
+      (old.0, put_keeps s l old.0 old.1, old.2)
+]
+
+only_without : (marks : List Bool) (s : List Literal) (l : Literal) → l.var - 1 < length marks → AreMarksOf marks s → AreMarksOf (set marks (l.var - 1) false) (without s l)
+only_without marks s l inside only = λ i on. elim (cases_eq i (l.var - 1)) as (λ _. (k : Literal) × (member (without s l) k ≡ true) × (k.var - 1 ≡ i)) [
+  | inl e ↦
+      let gone : get_or (set marks (l.var - 1) false) (l.var - 1) false ≡ false = rw get_or-set_same refl in
+      clash (get_or (set marks (l.var - 1) false) i false) on (ap (λ n. get_or (set marks (l.var - 1) false) n false) e ∙ gone)
+  | inr d ↦
+      let apart : i ≢ l.var - 1 = d in
+      let same : get_or (set marks (l.var - 1) false) i false ≡ get_or marks i false = rw get_or-set_other refl in
+      let old = only i (sym same ∙ on) in
+      (old.0, without_keeps s l old.0 (λ is. d (sym old.2 ∙ ap (λ (x : Literal). x.var - 1) is)) old.1, old.2)
+]
+
 module _ (d : ℕ) (t : List Step) (levels : List ℕ) (marks : List Bool) (count : ℕ) (s : List Literal) (are : AreMarks d t levels marks count s) where
   abbrev at_level : Literal → Bool
   at_level l = nat_eq (level_of t l) d
@@ -197,6 +227,7 @@ module _ (d : ℕ) (t : List Step) (levels : List ℕ) (marks : List Bool) (coun
         ordered = put_ordered 0 s l (omega arith) are.ordered;
         falsified = λ k has. elim (sets.member_put s l k has) [ inl old ↦ are.falsified k old | inr is ↦ ap (is_false (assigned t)) is ∙ wrong ];
         marked = marks_put t marks s l are.machine wrong are.marked;
+        only = only_put marks s l are.only;
         counted = counted_now (member s l) refl;
       }
     where
@@ -228,6 +259,7 @@ module _ (d : ℕ) (t : List Step) (levels : List ℕ) (marks : List Bool) (coun
         ordered = without_ordered 0 s l are.ordered;
         falsified = λ k one. are.falsified k (sets.member_without s l k one);
         marked = marks_without t marks s l are.machine wrong are.marked;
+        only = let range = false_range (length marks) t l are.machine wrong in let low = range.0 in let high = range.1 in only_without marks s l (omega arith) are.only;
         counted = let a = are.counted in let b = count_without at_level 0 s l are.ordered has in omega arith;
       }
 
@@ -258,5 +290,6 @@ none_marked d t levels marks small machine levels_are clear = record {
   ordered = tt;
   falsified = λ l has. clash (member [] l) has refl;
   marked = λ l _. clear (l.var - 1);
+  only = λ i on. clash (get_or marks i false) on (clear i);
   counted = refl;
 }

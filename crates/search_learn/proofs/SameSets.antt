@@ -49,7 +49,7 @@ module _ (p : Literal → Bool) where
   one true = omega arith
   one false = omega arith
 
-  counted_first : (l : Literal) (s : List Literal) → count_by p (l ∷ s) ≡ cond (p l) 1 0 + count_by p s
+  pub counted_first : (l : Literal) (s : List Literal) → count_by p (l ∷ s) ≡ cond (p l) 1 0 + count_by p s
   counted_first l s = sum_by-cons (λ x. cond (p x) 1 0) l s
 
   pub count_put : (s : List Literal) (l : Literal) → member s l ≡ false → count_by p (put s l) ≡ count_by p s + cond (p l) 1 0
@@ -84,7 +84,7 @@ module _ (p : Literal → Bool) where
             whole
       ] refl
 
-  any_counted : (s : List Literal) → list_any p s ≡ nat_lt 0 (count_by p s)
+  pub any_counted : (s : List Literal) → list_any p s ≡ nat_lt 0 (count_by p s)
   any_counted [] = refl
   any_counted (l ∷ s) =
       elim (p l) as (λ b. p l ≡ b → (b || list_any p s) ≡ nat_lt 0 (count_by p (l ∷ s))) [

@@ -8,3 +8,4 @@ pub mod Cases
 pub mod Values
 pub mod Marks
 pub mod Laws
+pub mod Kept

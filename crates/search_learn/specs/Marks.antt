@@ -3,6 +3,7 @@ use Rattle.std.specs.Prelude.{◌≡◌, ℕ, ◌+◌, ◌-◌, ◌*◌, ◌^◌
 use Rattle.sat_form.specs.Assignment.{is_false}
 use Rattle.sat_form.specs.Literals.{Literal, member}
 use Rattle.search_learn.specs.declared.Step.{Step}
+use Rattle.search_learn.specs.Cases.{times}
 use Rattle.search_learn.specs.Trail.{assigned, level_of}
 use Rattle.search_learn.specs.Values.{AreLevels, IsOfMachine}
 
@@ -23,6 +24,15 @@ AreFalse trail c = (l : Literal) → member c l ≡ true → is_false (assigned 
 abbrev pub AreClear : List Bool → Type 0
 AreClear marks = (i : ℕ) → get_or marks i false ≡ false
 
+-- Only variables of these literals are marked.
+abbrev pub AreMarksOf : List Bool → List Literal → Type 0
+AreMarksOf marks s = (i : ℕ) → get_or marks i false ≡ true → (l : Literal) × (member s l ≡ true) × (l.var - 1 ≡ i)
+
+-- The literals of a set in any order, no two of one variable.
+pub record IsListing (s lits : List Literal) : Type 0 where
+  pub members : (k : Literal) → member lits k ≡ member s k
+  pub once : (v : ℕ) → times v lits ≤ 1
+
 -- s: a set of false literals. count: how many of them are of level d
 pub record AreMarks (d : ℕ) (trail : List Step) (levels : List ℕ) (marks : List Bool) (count : ℕ) (s : List Literal) : Type 0 where
   pub small : length marks < 2 ^ 31
@@ -31,4 +41,5 @@ pub record AreMarks (d : ℕ) (trail : List Step) (levels : List ℕ) (marks : L
   pub ordered : Ordered 0 s
   pub falsified : AreFalse trail s
   pub marked : (l : Literal) → is_false (assigned trail) l ≡ true → get_or marks (l.var - 1) false ≡ member s l
+  pub only : AreMarksOf marks s
   pub counted : count ≡ count_by (λ l. nat_eq (level_of trail l) d) s

@@ -1,16 +1,15 @@
 //! Conflict analysis by marks on variables: the lesson of `learn`, at a cost of what the conflict touches.
 
-ghost use Rattle.std.specs.Prelude.{◌+◌, ◌-◌, ◌<◌, ◌^◌, ◌≡◌, ◌≤◌, All, IfNone, IfOk, IfSome, List, None, OnOk, Some, [], false, filter, fold, get_or, if◌then◌else◌, length, map, max, nat_eq, not, slice_set, true, ℕ};
+ghost use Rattle.std.specs.Prelude.{◌+◌, ◌-◌, ◌<◌, ◌^◌, ◌≡◌, ◌≤◌, All, IfOk, List, OnOk, [], false, filter, fold, get_or, if◌then◌else◌, length, map, max, nat_eq, not, slice_set, true, ℕ};
 ghost use Rattle.sat_form.specs.Assignment as assignment;
 ghost use Rattle.sat_form.specs.Literals as literals;
 ghost use Rattle.sat_form.specs.Literals.{Literal, negate};
 ghost use Rattle.search_learn.specs.Analysis as analysis;
 ghost use Rattle.search_learn.specs.Analysis.{lesson, seen};
-ghost use Rattle.search_learn.specs.Marks.{AreClear, AreFalse, AreMarks};
+ghost use Rattle.search_learn.specs.Marks.{AreClear, AreFalse, AreMarks, AreMarksOf, IsListing, Ordered};
 ghost use Rattle.search_learn.specs.Rule.{IsTrail, clause_with};
 ghost use Rattle.search_learn.specs.Trail as trails;
 ghost use Rattle.search_learn.specs.Trail.{clause_false, level_of};
-ghost use Rattle.search_learn.specs.Values.{AreValues};
 ghost use Rattle.search_learn.specs.declared.Step.{Step as Entry};
 
 use crate::trail::Trail;
@@ -154,8 +153,25 @@ fn is_resolved(marks: &[bool], count: usize, level: u32, step: &Step) -> bool
     marks[step.lit.var() as usize - 1] && (step.level == 0 || (step.level == level && count > 1))
 }
 
-/// Goes from the false clause through the entries from the last to the first, and resolves. The marks are then those of
-/// the learnt clause; answers its hints.
+/// Whether the variable of an entry is marked.
+#[inline(always)]
+fn is_marked(marks: &[bool], step: &Step) -> bool
+    requires { step.now.lit.var ≤ length marks.now }
+    ensures { result ≡ get_or marks.now (step.now.lit.var - 1) false }
+{
+    marks[step.lit.var() as usize - 1]
+}
+
+/// What is left of a false clause that was resolved along the trail, the last entry's literal first, and the hints of
+/// the learnt clause.
+#[derive(Drop)]
+struct Resolution {
+    lits: Vec<Lit>,
+    hints: Vec<u64>,
+}
+
+/// Goes from the false clause through the entries from the last to the first, and resolves; what is marked and isn't
+/// resolved is left. The marks are then those of the literals that are left.
 fn resolve_marked(
     alloc: Global,
     clauses: &Clauses,
@@ -163,19 +179,21 @@ fn resolve_marked(
     level: u32,
     marks: &mut [bool],
     false_id: u64,
-) -> Result<Vec<u64>, AllocError>
+) -> Result<Resolution, AllocError>
     requires small { length marks.old < 2 ^ 31 }
     requires clear { AreClear marks.old }
     requires vars { trail.now.vars ≡ length marks.old }
     requires trail { IsTrail (clause_with clauses.now) trail.now.vars trail.now.steps }
     requires level { level ≡ trails.level trail.now.steps }
     requires conflict { clause_false trail.now.steps (clause_with clauses.now false_id) ≡ true }
-    ensures hints { IfOk result (λ hints. hints.items ≡ (lesson (clause_with clauses.now) trail.now.steps level false_id).hints) }
+    ensures hints { IfOk result (λ r. r.hints.items ≡ (lesson (clause_with clauses.now) trail.now.steps level false_id).hints) }
+    ensures left { IfOk result (λ r. IsListing (lesson (clause_with clauses.now) trail.now.steps level false_id).lits r.lits.items) }
     ensures marks { OnOk result ((levels : List ℕ) × (count : ℕ) × AreMarks level trail.now.steps levels marks.new count (lesson (clause_with clauses.now) trail.now.steps level false_id).lits) }
 {
     let levels = trail.levels();
     let steps = trail.steps();
     let mut count = mark_all(marks, levels, level, literals(clauses, false_id));
+    let mut lits = Vec::new(alloc);
     let mut hints = Vec::new(alloc);
     let mut left = steps.len();
     while left > 0 {
@@ -185,45 +203,32 @@ fn resolve_marked(
             let reason = literals(clauses, step.reason);
             count = resolve(marks, count, levels, level, step, reason);
             hints.push(step.reason)?;
+        } else if is_marked(marks, step) {
+            lits.push(step.lit.not())?;
         }
     }
     hints.reverse();
     hints.push(false_id)?;
-    Ok(hints)
+    Ok(Resolution { lits, hints })
 }
 
-/// The false literal of the variable at a place, from 0, if it is marked and assigned.
-#[inline(always)]
-fn marked_at(marks: &[bool], values: &[Option<bool>], place: usize) -> Option<Lit>
-    requires place { place < length marks.now }
-    requires small { length marks.now < 2 ^ 31 }
-    requires values { length values.now ≡ length marks.now }
-    ensures some { IfSome result (λ lit. (lit.var ≡ place + 1) × (get_or marks.now place false ≡ true) × (get_or values.now place None ≡ Some (not lit.positive))) }
-    ensures none { IfNone result ((get_or marks.now place false ≡ true) → get_or values.now place None ≡ None) }
+/// Puts the literals of a set, listed in any order, into the order of sets. O(count log count).
+fn sort(lits: &mut Vec<Lit>)
+    ensures { (s : List Literal) → Ordered 0 s → IsListing s lits.old.items → lits.new.items ≡ s }
 {
-    if !marks[place] {
-        return None;
-    }
-    match values[place] {
-        Some(value) => Some(Lit::new(place as u32 + 1, !value)),
-        None => None,
-    }
+    lits.sort_unstable_by_key(|lit| lit.var());
 }
 
-/// The marked variables in their order, each by its false literal. O(vars).
-fn collect(alloc: Global, marks: &[bool], values: &[Option<bool>]) -> Result<Vec<Lit>, AllocError>
-    requires small { length marks.now < 2 ^ 31 }
-    requires values { length values.now ≡ length marks.now }
-    ensures { IfOk result (λ lits. (d : ℕ) (t : List Entry) (levels : List ℕ) (count : ℕ) (s : List Literal) → AreMarks d t levels marks.now count s
-        → AreValues (length marks.now) values.now t → lits.items ≡ s) }
+/// Takes the marks of a clause's variables away, where no other variable is marked.
+fn unmark_all(marks: &mut [bool], lits: &[Lit])
+    requires within { All (λ l. l.var ≤ length marks.old) lits.now }
+    requires marked { AreMarksOf marks.old lits.now }
+    ensures { AreClear marks.new }
 {
-    let mut lits = Vec::new(alloc);
-    for place in 0..marks.len() {
-        if let Some(lit) = marked_at(marks, values, place) {
-            lits.push(lit)?;
-        }
+    for lit in lits {
+        let place = lit.var() as usize - 1;
+        marks[place] = false;
     }
-    Ok(lits)
 }
 
 /// The level of a literal's variable.
@@ -250,7 +255,7 @@ fn greatest_other(levels: &[u32], level: u32, lits: &[Lit]) -> u32
     back
 }
 
-/// What a conflict teaches; the marks aren't taken away.
+/// What a conflict teaches; the marks are taken away again, but after a refusal.
 fn marked_lesson(
     alloc: Global,
     clauses: &Clauses,
@@ -263,11 +268,15 @@ fn marked_lesson(
     requires vars { trail.now.vars ≡ length marks.old }
     requires trail { IsTrail (clause_with clauses.now) trail.now.vars trail.now.steps }
     requires conflict { clause_false trail.now.steps (clause_with clauses.now false_id) ≡ true }
-    ensures { IfOk result (λ l. seen l ≡ lesson (clause_with clauses.now) trail.now.steps (trails.level trail.now.steps) false_id) }
+    ensures lesson { IfOk result (λ l. seen l ≡ lesson (clause_with clauses.now) trail.now.steps (trails.level trail.now.steps) false_id) }
+    ensures clear { OnOk result (AreClear marks.new) }
 {
     let level = trail.level();
-    let hints = resolve_marked(alloc, clauses, trail, level, marks, false_id)?;
-    let lits = collect(alloc, marks, trail.values())?;
+    let Resolution { mut lits, hints } = resolve_marked(
+        alloc, clauses, trail, level, marks, false_id,
+    )?;
+    sort(&mut lits);
+    unmark_all(marks, &lits);
     let back = greatest_other(trail.levels(), level, &lits);
     Ok(Learnt { lits, hints, back })
 }
@@ -276,8 +285,8 @@ fn marked_lesson(
 fn clear(marks: &mut [bool])
     ensures { AreClear marks.new }
 {
-    for place in 0..marks.len() {
-        marks[place] = false;
+    for mark in marks.iter_mut() {
+        *mark = false;
     }
 }
 
@@ -296,8 +305,8 @@ impl Learner {
     /// its last entry back, until one literal of the current level is left; what is false at level 0 is resolved away.
     ///
     /// The ids are the places of `clauses`, from 1. `trail` is one of the machine, over as many variables, and the clause
-    /// `false_id` is false on it. Takes time O(vars + entries + literals of the clauses that are resolved). The only error
-    /// is want of memory, and the learner serves on behind it.
+    /// `false_id` is false on it. Takes time O(entries + literals of the clauses that are resolved + count log count) where
+    /// `count` literals are learnt. The only error is want of memory, behind which it takes O(vars) more and serves on.
     pub fn learn(
         &mut self,
         alloc: Global,
@@ -312,8 +321,12 @@ impl Learner {
         ensures lesson { IfOk result (λ l. seen l ≡ lesson (clause_with clauses.now) trail.now.steps (trails.level trail.now.steps) false_id) }
         ensures vars { self.new ≡ self.old }
     {
-        let learnt = marked_lesson(alloc, clauses, trail, &mut self.marks, false_id);
-        clear(&mut self.marks);
-        learnt
+        match marked_lesson(alloc, clauses, trail, &mut self.marks, false_id) {
+            Ok(learnt) => Ok(learnt),
+            Err(error) => {
+                clear(&mut self.marks);
+                Err(error)
+            }
+        }
     }
 }

@@ -60,7 +60,7 @@ impl Model for Plain {
     ghost use Rattle.search_learn.specs.Machine.{numbered};
     ghost use Rattle.search_learn.specs.Rule.{lists};
     ghost use Rattle.search_learn.specs.Engine.{Engine};
-    ghost use Rattle.search_plain.specs.Kept.{Holds};
+    ghost use Rattle.search_learn.specs.Kept.{Holds};
 
     ghost Value = { Engine };
 

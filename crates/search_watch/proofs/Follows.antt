@@ -22,9 +22,9 @@ use Rattle.search_learn.proofs.Entries.{assigned_last}
 use Rattle.search_learn.proofs.Keeps.{Kept}
 use Rattle.search_learn.proofs.Lessons.{all_ranged, teaches_ranged}
 use Rattle.search_learn.proofs.Places.{same_clause}
-use Rattle.search_plain.specs.Kept.{Holds}
-use Rattle.search_plain.proofs.Lessons.{holds_refute}
-use Rattle.search_plain.proofs.Steps.{holds_stop, kept_of}
+use Rattle.search_learn.specs.Kept.{Holds}
+use Rattle.search_learn.proofs.Held.{holds_refute}
+use Rattle.search_learn.proofs.Steps.{holds_stop, kept_of}
 use Rattle.search_watch.specs.Cases.{IsQuiet, IsUnbroken}
 use Rattle.search_watch.specs.Chosen.{IsOpen}
 use Rattle.search_watch.specs.Kept.{Follows}

@@ -4,7 +4,7 @@ use Rattle.sat_form.specs.Literals.{Literal}
 use Rattle.search_heap.specs.Ranking.{Ranking}
 use Rattle.search_learn.specs.declared.Turn.TheVariants.{More}
 use Rattle.search_learn.specs.Machine.{State, numbered}
-use Rattle.search_plain.specs.Kept.{Holds}
+use Rattle.search_learn.specs.Kept.{Holds}
 use Rattle.search_watch.specs.Members.{HasFree}
 use Rattle.search_watch.specs.Nets.{Net, IsNet}
 

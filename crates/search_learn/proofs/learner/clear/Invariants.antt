@@ -1,5 +1,5 @@
 use Rattle.std.proofs.Common.{◌≡◌, ℕ, ◌<◌, false, get_or}
 use Rattle.search_learn.proofs.learner.clear.Given as goal
 
-abbrev pub invariant-loop-place : goal.invariant-loop-place
-invariant-loop-place l = (i : ℕ) → i < l.place → get_or l.marks i false ≡ false
+abbrev pub invariant-loop-mark : goal.invariant-loop-mark
+invariant-loop-mark l = (i : ℕ) → i < l.mark-index → get_or l.marks i false ≡ false

@@ -4,9 +4,9 @@ use Rattle.sat_form.specs.Literals.{Literal}
 use Rattle.search_learn.specs.Machine.{clause_at}
 use Rattle.search_learn.specs.Values.{Entries}
 use Rattle.search_plain.specs.contracts.Plain.{the_view}
-use Rattle.search_plain.proofs.Steps as steps
+use Rattle.search_learn.proofs.Steps as steps
 use Rattle.search_learn.proofs.Cases as cases
-use Rattle.search_plain.proofs.Lessons as lessons
+use Rattle.search_learn.proofs.Held as lessons
 use Rattle.search_learn.proofs.Lessons as learnt
 use Rattle.std.specs.declared.vec.Vec.{Vec}
 use Rattle.std.specs.declared.alloc.Global.{Global}

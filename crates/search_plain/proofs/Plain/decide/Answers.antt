@@ -6,7 +6,7 @@ use Rattle.search_learn.specs.Trail.{level}
 use Rattle.search_learn.specs.Machine.{quietly, choose}
 use Rattle.search_learn.specs.Values.{Entries}
 use Rattle.search_plain.specs.contracts.Plain.{the_view}
-use Rattle.search_plain.proofs.Steps as steps
+use Rattle.search_learn.proofs.Steps as steps
 use Rattle.search_learn.proofs.Cases as cases
 use Rattle.search_learn.proofs.Lessons as learnt
 use Rattle.search_learn.proofs.Reached.{either_sign}

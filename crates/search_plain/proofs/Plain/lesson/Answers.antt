@@ -1,6 +1,6 @@
 use Rattle.std.proofs.Common.{◌++◌, refl}
 use Rattle.search_plain.specs.contracts.Plain.{the_view}
-use Rattle.search_plain.proofs.Steps as steps
+use Rattle.search_learn.proofs.Steps as steps
 use Rattle.search_learn.proofs.Lessons as learnt
 use Rattle.search_learn.specs.Rule as rule
 use Rattle.search_plain.proofs.Plain.lesson.Goals as goal

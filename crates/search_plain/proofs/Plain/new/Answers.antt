@@ -1,6 +1,6 @@
 use Rattle.std.proofs.Common.{ap}
 use Rattle.search_learn.specs.Values.{Entries}
-use Rattle.search_plain.proofs.Lessons as lessons
+use Rattle.search_learn.proofs.Held as lessons
 use Rattle.search_plain.proofs.Plain.new.Goals as goal
 
 pub invariant_of-result : goal.invariant_of-result

@@ -2,7 +2,7 @@ use Rattle.std.proofs.Common.{◌+◌, ◌∙◌, ◌≡◌, ap, sym, refl, arit
 use Rattle.std.proofs.lemmas.List.{with_items_is}
 use Rattle.search_learn.specs.Machine.{quietly}
 use Rattle.search_plain.specs.contracts.Plain.{the_view}
-use Rattle.search_plain.proofs.Steps as steps
+use Rattle.search_learn.proofs.Steps as steps
 use Rattle.search_learn.proofs.Cases as cases
 use Rattle.search_plain.proofs.Plain.put_units.Goals as goal
 

@@ -6,7 +6,7 @@ use Rattle.search_learn.specs.Trail.{cut}
 use Rattle.search_learn.specs.Values.{Entries, IsOfMachine}
 use Rattle.search_learn.proofs.Cases as cases
 use Rattle.search_learn.proofs.Lessons as learnt
-use Rattle.search_plain.proofs.Lessons as lessons
+use Rattle.search_learn.proofs.Held as lessons
 use Rattle.search_watch.specs.Chosen.{IsOpen}
 use Rattle.search_watch.specs.Members.{HasFree, IsCutOrSame}
 use Rattle.search_watch.specs.Nets.{Net, IsNet, net}

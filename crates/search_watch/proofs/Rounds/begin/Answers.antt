@@ -6,8 +6,8 @@ use Rattle.search_learn.specs.declared.Step.{Step}
 use Rattle.search_learn.specs.declared.Turn.TheVariants.{More}
 use Rattle.search_learn.specs.Machine.{State, numbered}
 use Rattle.search_learn.specs.Values.{Entries}
-use Rattle.search_plain.specs.Kept.{Holds}
-use Rattle.search_plain.proofs.Lessons as lessons
+use Rattle.search_learn.specs.Kept.{Holds}
+use Rattle.search_learn.proofs.Held as lessons
 use Rattle.search_watch.specs.Nets.{IsNet, net}
 use Rattle.search_watch.proofs.Rounds.begin.Goals as goal
 

@@ -7,8 +7,8 @@ use Rattle.search_learn.specs.declared.Turn.TheVariants.{Budget, Sat}
 use Rattle.search_learn.specs.Machine.{Clause, decide, numbered, quietly}
 use Rattle.search_learn.specs.Values.{Entries, IsOfMachine}
 use Rattle.search_learn.proofs.Cases as cases
-use Rattle.search_plain.specs.Kept.{Holds}
-use Rattle.search_plain.proofs.Steps as steps
+use Rattle.search_learn.specs.Kept.{Holds}
+use Rattle.search_learn.proofs.Steps as steps
 use Rattle.search_watch.specs.Added.{decision}
 use Rattle.search_watch.specs.Members.{HasFree}
 use Rattle.search_watch.specs.Nets.{IsNet, net}

@@ -7,8 +7,8 @@ use Rattle.search_learn.specs.Machine.{State, numbered, quietly}
 use Rattle.search_learn.specs.Trail.{is_assigned}
 use Rattle.search_learn.specs.Values.{IsOfMachine}
 use Rattle.search_learn.proofs.Cases as cases
-use Rattle.search_plain.specs.Kept.{Holds}
-use Rattle.search_plain.proofs.Steps as steps
+use Rattle.search_learn.specs.Kept.{Holds}
+use Rattle.search_learn.proofs.Steps as steps
 use Rattle.search_watch.specs.Nets.{IsNet, net}
 use Rattle.search_watch.specs.contracts.Rounds.{the_view}
 use Rattle.search_watch.proofs.Follows as follows

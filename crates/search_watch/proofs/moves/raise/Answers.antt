@@ -3,7 +3,7 @@ use Rattle.sat_form.specs.Literals.{Literal}
 use Rattle.search_learn.specs.Cases.{times}
 use Rattle.search_learn.specs.Machine.{raise}
 use Rattle.search_heap.specs.Ranking.{Ranking, score_of}
-use Rattle.search_plain.proofs.Raising.{raise_first, room_next, room_here}
+use Rattle.search_learn.proofs.Raising.{raise_first, room_next, room_here}
 use Rattle.search_watch.proofs.moves.raise.Goals as goal
 
 pub raise-requires-clause-room : goal.raise-requires-clause-room

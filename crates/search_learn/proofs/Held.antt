@@ -1,4 +1,4 @@
--- What a conflict teaches, as the plain machine takes it.
+-- What a program that runs the machine keeps over a conflict.
 use Rattle.std.proofs.Common.{◌≡◌, ℕ, zero, suc, ◌+◌, ◌-◌, ◌*◌, ◌^◌, ◌<◌, ◌≤◌, Bool, false, List, [], ◌++◌, length, get_or, replicate, refl, ap, sym, ◌∙◌, subst, arith}
 use Rattle.std.proofs.lemmas.List.{append-nil, length-replicate}
 use Rattle.search_learn.proofs.Ordered.{lesson_times}
@@ -13,7 +13,7 @@ use Rattle.search_learn.specs.Trail.{level}
 use Rattle.search_learn.specs.Rule.{lists}
 use Rattle.search_learn.specs.Analysis.{Lesson}
 use Rattle.search_learn.specs.Machine.{Clause, State, numbered, clause_at, after_lesson, raise, count_conflict, step}
-use Rattle.search_plain.specs.Kept.{Holds}
+use Rattle.search_learn.specs.Kept.{Holds}
 use Rattle.search_learn.specs.Cases.{Teaches, times}
 use Rattle.search_learn.proofs.Lessons.{added, length_raised, raise_low, teaches_ranged}
 use Rattle.search_learn.proofs.Cases.{reached_more}

@@ -1,10 +1,10 @@
--- What the plain machine keeps beside its state.
+-- What a program that runs the machine keeps beside its state.
 use Rattle.std.specs.Prelude.{◌≡◌, ℕ, ◌*◌, ◌^◌, ◌≤◌, List, length, get_or}
 use Rattle.sat_form.specs.Literals.{Literal}
 use Rattle.search_learn.specs.declared.Turn.TheVariants.{More}
 use Rattle.search_learn.specs.Machine.{State, Reached}
 
--- What holds of the plain machine unless it is broken. vars: how many variables its trail has; learnt: how many clauses it learnt
+-- What holds unless it is broken. vars: how many variables its trail has; learnt: how many clauses it learnt
 pub record Holds (cs : List (List Literal)) (budget : ℕ) (vars learnt : ℕ) (m : State) : Type 0 where
   pub limit : budget ≤ 2 ^ 62
   pub over : vars ≡ m.vars

@@ -1,4 +1,4 @@
--- What the plain machine keeps over steps that learn nothing.
+-- What a program that runs the machine keeps over steps that learn nothing.
 use Rattle.std.proofs.Common.{◌≡◌, ℕ, ◌≤◌, Bool, true, List, length, arith, subst, sym}
 use Rattle.std.specs.Prelude.{None}
 use Rattle.sat_form.specs.Literals.{Literal}
@@ -13,7 +13,7 @@ use Rattle.search_learn.specs.Values.{IsOfMachine}
 use Rattle.search_learn.proofs.Keeps.{Kept}
 use Rattle.search_learn.proofs.Reached.{reached_kept}
 use Rattle.search_learn.proofs.Cases.{reached_more}
-use Rattle.search_plain.specs.Kept.{Holds}
+use Rattle.search_learn.specs.Kept.{Holds}
 
 pub kept_of : (cs : List (List Literal)) (budget : ℕ) (vars learnt : ℕ) (m : State) → is_formula m.vars cs ≡ true → Holds cs budget vars learnt m → Kept m
 kept_of cs budget vars learnt m formula holds = reached_kept m.vars cs budget m (both _ (variables_within m.vars cs) formula).1 holds.reached
