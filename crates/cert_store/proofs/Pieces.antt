@@ -1,12 +1,12 @@
 -- A file that is written in pieces, one after the other.
-use Rattle.std.proofs.Common.{◌≡◌, ℕ, ◌+◌, ◌-◌, ◌≤◌, List, [], ◌++◌, length, take, drop, refl, sym, ap, ◌∙◌, subst, arith, Some, None, Bool, cond, true, false, IfSome, IsSome}
+use Rattle.std.proofs.Common.{◌≡◌, ℕ, ◌+◌, ◌≤◌, List, [], ◌++◌, length, take, drop, refl, sym, ap, ◌∙◌, subst, arith, Some, None, Bool, cond, true, false, IfSome, IsSome}
 use Rattle.std.specs.Prelude.{Option, option_map, unwrap_or}
 use Rattle.std.specs.Ordering.{nat_cmp, is_eq, eq_by_cmp}
 use Rattle.std.specs.Cmp.Lexicographic.{slice_cmp, nat_list_cmp_total}
 use Rattle.std.specs.FinMap as fin
 use Rattle.std.proofs.lemmas.Cmp.{tied_itself}
-use Rattle.std.proofs.lemmas.List.{length-drop}
-use Rattle.std.proofs.Math.Seq.{take-add, take-length}
+use Rattle.std.proofs.lemmas.List.{length-drop, length-take, take-take}
+use Rattle.std.proofs.Math.Seq.{take-add}
 use Rattle.bvd_host.specs.Files.{Files, file_at, with_file, with_more}
 
 tied : (k : List ℕ) → eq_by_cmp (slice_cmp nat_cmp) k k ≡ true
@@ -37,10 +37,12 @@ piece_of None k bytes at n = refl
 piece_of (Some f) k bytes at n = ap Some (with_more-with_file f k (take at bytes) (take n (drop at bytes)) ∙ ap (with_file f k) (sym (take-add at n bytes)))
 
 -- one piece more is written
-pub piece_more : (o mid new : Option Files) (k bytes : List ℕ) (at n : ℕ) (piece : List ℕ) → mid ≡ option_map (λ f. with_file f k (take at bytes)) o
-    → new ≡ option_map (λ f. with_more f k (take n piece)) mid → piece ≡ drop at bytes → new ≡ option_map (λ f. with_file f k (take (at + n) bytes)) o
-piece_more o mid new k bytes at n piece p q e = q ∙ ap (λ l. option_map (λ f. with_more f k (take n l)) mid) e
-    ∙ ap (option_map (λ f. with_more f k (take n (drop at bytes)))) p ∙ piece_of o k bytes at n
+pub piece_more : (o mid new : Option Files) (k bytes : List ℕ) (at n size : ℕ) (piece : List ℕ) → mid ≡ option_map (λ f. with_file f k (take at bytes)) o
+    → new ≡ option_map (λ f. with_more f k (take n piece)) mid → piece ≡ take size (drop at bytes) → n ≤ length piece → new ≡ option_map (λ f. with_file f k (take (at + n) bytes)) o
+piece_more o mid new k bytes at n size piece p q e within =
+    let few : length piece ≤ size = omega (arith, ap length e ∙ length-take size (drop at bytes)) in
+    let front : take n piece ≡ take n (drop at bytes) = ap (take n) e ∙ take-take n size (drop at bytes) (omega arith) in
+    q ∙ ap (λ l. option_map (λ f. with_more f k l) mid) front ∙ ap (option_map (λ f. with_more f k (take n (drop at bytes)))) p ∙ piece_of o k bytes at n
 
 there_of : (o : Option Files) (k x : List ℕ) → IfSome (option_map (λ f. with_file f k x) o) (λ f. IsSome (file_at f k))
 there_of None k x = tt
@@ -50,10 +52,6 @@ there_of (Some f) k x = let P : Option (List ℕ) → Type 0 = IsSome in subst P
 pub there : (o mid : Option Files) (k x : List ℕ) → mid ≡ option_map (λ f. with_file f k x) o → IfSome mid (λ f. IsSome (file_at f k))
 there o mid k x e = let P : Option Files → Type 0 = λ m. IfSome m (λ f. IsSome (file_at f k)) in subst P (sym e) (there_of o k x)
 
--- the end of a list from a place on, as a slice of it
-pub rest_from : (l : List ℕ) (at : ℕ) → take (length l - at) (drop at l) ≡ drop at l
-rest_from l at = ap (λ k. take k (drop at l)) (sym (length-drop at l)) ∙ take-length (drop at l)
-
--- what is taken of it ends within the list
-pub rest_within : (l : List ℕ) (at n : ℕ) → at ≤ length l → n ≤ length (take (length l - at) (drop at l)) → at + n ≤ length l
-rest_within l at n h k = omega (arith, ap length (rest_from l at), length-drop at l)
+-- what is taken of a piece ends within the list
+pub piece_within : (l : List ℕ) (at n size : ℕ) (piece : List ℕ) → at ≤ length l → piece ≡ take size (drop at l) → n ≤ length piece → at + n ≤ length l
+piece_within l at n size piece h e k = omega (arith, ap length e ∙ length-take size (drop at l), length-drop at l)

@@ -1,5 +1,5 @@
-//! Writes a certificate. A keeper may take a piece in part, so each piece is followed by the rest of it, until the file is
-//! whole or the keeper refuses.
+//! Writes a certificate in pieces. A keeper may take a piece in part: the next piece then begins with the rest of it, until
+//! the file is whole or the keeper refuses.
 ghost use Rattle.std.specs.Prelude.{◌≡◌, [], take, option_map, OnOk, OnErr, IfOk, IfSome, IsSome, IsErrOf};
 ghost use Rattle.bvd_host.specs.Files.{file_at, with_file, with_more, IsTaken};
 ghost use Rattle.bvd_host.specs.Causes.{HasCause};
@@ -7,6 +7,9 @@ ghost use Rattle.cert_store.specs.CutShort.{IsCutShort};
 
 use crate::stop::StoreStop;
 use bvd_host::{KeepStop, Keeper};
+
+/// How many bytes are handed to the keeper at once.
+const PIECE: usize = 65536;
 
 /// Makes the name stand for no bytes.
 fn make<K: Keeper>(keeper: &mut K, name: &str) -> Result<(), StoreStop>
@@ -45,8 +48,9 @@ fn add_piece<K: Keeper>(keeper: &mut K, name: &str, bytes: &[u8]) -> Result<usiz
 /// Makes the name stand for the text, whatever it stood for, and leaves every other file.
 ///
 /// After a refusal the name stands for what it stood for before or for the first bytes of the text. `Failed` comes only
-/// where the keeper's count of faults rose in this call, and `Absent` never comes. Takes no memory of its own. Time:
-/// O(length of the text) and the keeper's calls, of which there is one and one more for each piece that it takes.
+/// where the keeper's count of faults rose in this call, and `Absent` never comes. The text is handed over in pieces of at
+/// most 65,536 bytes. Takes no memory of its own. Time: O(length of the text) and the keeper's calls, of which there is one
+/// and one more for each piece that it takes.
 pub fn put<K: Keeper>(keeper: &mut K, name: &str, text: &[u8]) -> Result<(), StoreStop>
     ensures ok { OnOk result (K.files keeper.new ≡ option_map (λ f. with_file f name.now text.now) (K.files keeper.old)) }
     ensures err { OnErr result (IsCutShort name.now text.now (K.files keeper.old) (K.files keeper.new)) }
@@ -57,7 +61,8 @@ pub fn put<K: Keeper>(keeper: &mut K, name: &str, text: &[u8]) -> Result<(), Sto
     make(keeper, name)?;
     let mut at = 0usize;
     'pieces: while at < text.len() {
-        at += add_piece(keeper, name, &text[at..])?;
+        let size = (text.len() - at).min(PIECE);
+        at += add_piece(keeper, name, &text[at..at + size])?;
     }
     Ok(())
 }

@@ -55,3 +55,13 @@ fn what_is_put_is_fetched(rt: HostRuntime) -> Result<(), Fail> {
     }
     Ok(())
 }
+
+/// Its third write fails, which would add the second piece.
+#[test]
+fn a_long_text_is_put_in_pieces(rt: HostRuntime) -> Result<(), Fail> {
+    let mut keeper = keeper_of(rt.alloc(), 3)?;
+    let text = vec![in rt.alloc(); b'x'; 100_000]?;
+    assert!(rt; put(&mut keeper, "a", &text).is_err());
+    assert_eq!(rt; keeper.size("a").unwrap_or(0), 65536);
+    Ok(())
+}

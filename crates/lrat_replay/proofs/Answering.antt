@@ -7,6 +7,7 @@ use Rattle.lrat_lines.specs.Replay.Verdict.{Accepted, Refused, Undecided}
 use Rattle.lrat_replay.specs.Answer.{IsAnswerOn}
 use Rattle.lrat_replay.specs.Leads.{Leads}
 use Rattle.lrat_replay.specs.Memory.{IsMemory, IsOutside}
+use Rattle.lrat_replay.specs.Passed.{Accepts, GoesOn}
 use Rattle.lrat_replay.specs.Standing.{WillAnswer, WillComeTo}
 use Rattle.lrat_replay.specs.Told.{Brings, OfText}
 use Rattle.lrat_replay.specs.declared.progress.Progress.{Progress}
@@ -36,6 +37,18 @@ module _ (p q : Progress) (bytes fed more : List ℕ) where
   fed_accepted ended rest cut fits e leads =
       let m = p.left - length fed in
       (Accepted, comes Accepted rest cut fits (accepted ended (WillComeTo p (length fed + m) (fed ++ (more ++ rest))) (WillComeTo q m (more ++ rest)) e (leads m (more ++ rest))), refl)
+
+  -- The fed bytes accept, whatever follows.
+  pub fed_accepts : (ended : Bool) → bytes ≡ fed ++ more → ended ≡ true
+      → ((most : ℕ) (rest : List ℕ) → Leads (Ok ended) (WillComeTo p (length fed + most) (fed ++ rest)) (WillComeTo q most rest))
+      → Accepts p bytes
+  fed_accepts ended cut e leads most rest =
+      let long : length bytes ≡ length fed + length more = rw cut (length-append fed more) in
+      let count : length fed + (length more + most) ≡ length bytes + most = omega arith in
+      let text : fed ++ (more ++ rest) ≡ bytes ++ rest = rw cut (simp append_assoc) in
+      let m = length more + most in
+      let all = accepted ended (WillComeTo p (length fed + m) (fed ++ (more ++ rest))) (WillComeTo q m (more ++ rest)) e (leads m (more ++ rest)) in
+      subst (λ (t : List ℕ). WillComeTo p (length bytes + most) t Accepted) text (subst (λ (k : ℕ). WillComeTo p k (fed ++ (more ++ rest)) Accepted) count all)
 
   -- The fed bytes are refused.
   pub fed_refused : (stop : ReplayStop) (rest : List ℕ) → bytes ≡ fed ++ more → length fed ≤ p.left
@@ -80,6 +93,13 @@ fed_onward p q bytes fed ended rest left r same count e leads answer =
     let here : WillComeTo p (length fed + left) (fed ++ rest) v = onward ended (WillComeTo p (length fed + left) (fed ++ rest)) (WillComeTo q left rest) e (leads left rest) v answer.1 in
     let all : length fed + left ≡ p.left = rw (← same) (omega arith) in
     (v, subst (λ (k : ℕ). WillComeTo p k (bytes ++ rest) v) all (subst (λ (t : List ℕ). WillComeTo p (length fed + left) (t ++ rest) v) (sym same) here), answer_back left p.left bytes rest v r count answer.2)
+
+-- Bytes that don't decide lead on.
+pub fed_goes : (p q : Progress) (bytes fed : List ℕ) (ended : Bool) → bytes ≡ fed → ended ≡ false
+    → ((most : ℕ) (rest : List ℕ) → Leads (Ok ended) (WillComeTo p (length fed + most) (fed ++ rest)) (WillComeTo q most rest))
+    → GoesOn p bytes q
+fed_goes p q bytes fed ended same e leads most rest v h =
+    subst (λ (t : List ℕ). WillComeTo p (length t + most) (t ++ rest) v) (sym same) (onward ended (WillComeTo p (length fed + most) (fed ++ rest)) (WillComeTo q most rest) e (leads most rest) v h)
 
 -- What is left of a source, when it has ended.
 pub of_end : (P : List ℕ → Type 0) (old new : Option (List ℕ)) (n : ℕ) (buf : List ℕ) → Gives old new n buf → n ≡ 0 → 0 < length buf → P [] → OfText old P

@@ -11,27 +11,39 @@ use Rattle.lrat_lines.specs.Replay.{Verdict, ComesTo, TextComesTo, lines_within}
 use Rattle.lrat_lines.specs.Replay.Verdict.{Accepted, Refused, Undecided}
 use Rattle.lrat_replay.specs.Answer.{Answers, IsAnswer, IsAnswerOn, IsFromText}
 use Rattle.lrat_replay.specs.Memory.{IsOutside}
-use Rattle.lrat_replay.specs.Standing.{WillAnswer}
+use Rattle.lrat_replay.specs.Standing.{WillAnswer, WillComeTo}
 use Rattle.lrat_replay.specs.Told.{Ends, IsAbove, OfText}
 use Rattle.lrat_replay.specs.declared.progress.Progress.{Progress}
 use Rattle.lrat_replay.specs.declared.stop.ReplayStop.{ReplayStop}
 use Rattle.lrat_replay.specs.declared.stop.ReplayStop.TheVariants.{Bad, IdInUse, NoClause, NotUnit, NoConflict, MissingGroup, StrangeGroup, NoEmpty, TooLong, ReadFault, Memory}
 
--- where nothing is taken, the answer to come is that on the text
+-- Where nothing is taken, the verdict to come is that on the text.
+pub from_start : (cs : List (List Literal)) (most : ℕ) (p : Progress) (text : List ℕ) (v : Verdict)
+    → p.judge ≡ given cs → p.begun.items ≡ [] → p.judged ≡ 0 → WillComeTo p most text v → ComesTo (given cs) 1 (lines_within most text) v
+from_start cs most p text v judge begun judged h =
+    let zero : 0 + most ≡ most = omega arith in
+    let one : p.judged + 1 ≡ 1 = omega arith in
+    let lines : lines_within (length p.begun.items + most) (p.begun.items ++ text) ≡ lines_within most text =
+    ap (λ (b : List ℕ). lines_within (length b + most) (b ++ text)) begun ∙ ap (λ (k : ℕ). lines_within k text) zero in
+    subst (λ (db : Clauses). ComesTo db 1 (lines_within most text) v) judge
+    (subst (λ (k : ℕ). ComesTo p.judge k (lines_within most text) v) one
+    (subst (λ (ls : List (List ℕ)). ComesTo p.judge (p.judged + 1) ls v) lines h))
+
+-- and the answer to come is that on the text
 start : (cs : List (List Literal)) (most : ℕ) (p : Progress) (text : List ℕ) (r : Result (Unit {0}) ReplayStop)
     → p.judge ≡ given cs → p.begun.items ≡ [] → p.judged ≡ 0 → p.left ≡ most → WillAnswer p text r → IsAnswer cs most text r
 start cs most p text r judge begun judged left h =
-    let v = h.0 in
-    let zero : 0 + p.left ≡ most = omega arith in
-    let one : p.judged + 1 ≡ 1 = omega arith in
-    let lines : lines_within (length p.begun.items + p.left) (p.begun.items ++ text) ≡ lines_within most text =
-    ap (λ (b : List ℕ). lines_within (length b + p.left) (b ++ text)) begun ∙ ap (λ (k : ℕ). lines_within k text) zero in (
-      v,
-      subst (λ (db : Clauses). ComesTo db 1 (lines_within most text) v) judge
-          (subst (λ (k : ℕ). ComesTo p.judge k (lines_within most text) v) one
-          (subst (λ (ls : List (List ℕ)). ComesTo p.judge (p.judged + 1) ls v) lines h.1)),
-      subst (λ (k : ℕ). IsAnswerOn k text v r) left h.2,
-    )
+    let all : WillComeTo p most text h.0 = subst (λ (k : ℕ). WillComeTo p k text h.0) left h.1 in
+    (h.0, from_start cs most p text h.0 judge begun judged all, subst (λ (k : ℕ). IsAnswerOn k text h.0 r) left h.2)
+
+-- Ok is answered on one verdict alone.
+pub ok_accepts : (most : ℕ) (text : List ℕ) (v : Verdict) → IsAnswerOn most text v (Ok tt) → v ≡ Accepted
+ok_accepts most text Accepted h = refl
+ok_accepts most text (Refused n fault) h = cc
+ok_accepts most text Undecided h =
+    let within : length text ≤ most → ⊥ = λ l. let e = h.0 l in cc in
+    let over : most < length text → ⊥ = λ l. let e = h.1 l in cc in
+    absurd (⊎_elim (λ t. within t.1) (λ t. over t.1) (leb_tells (length text) most))
 
 -- an error's answer
 err_answers : (cs : List (List Literal)) (most : ℕ) (text : List ℕ) (stop : ReplayStop) → (¬ (IsOutside stop) → IsAnswer cs most text (Err stop)) → Answers cs most text (Err stop)
@@ -80,15 +92,6 @@ module _ (cs : List (List Literal)) (most : ℕ) (p : Progress) (judge : p.judge
       let found = some_text (Err stop) told (h outside) in
       (found.0, err_answers cs most found.0 stop (λ _. found.1))
 
-  -- Ok is answered on one verdict alone
-  ok_accepts : (text : List ℕ) (v : Verdict) → IsAnswerOn most text v (Ok tt) → v ≡ Accepted
-  ok_accepts text Accepted h = refl
-  ok_accepts text (Refused n fault) h = cc
-  ok_accepts text Undecided h =
-      let within : length text ≤ most → ⊥ = λ l. let e = h.0 l in cc in
-      let over : most < length text → ⊥ = λ l. let e = h.1 l in cc in
-      absurd (⊎_elim (λ t. within t.1) (λ t. over t.1) (leb_tells (length text) most))
-
   -- What is accepted has no values.
   pub refutes : ((ls : List Line) → ChecksRefute cs ls) → ((texts : List (List ℕ)) → AcceptedIsChecked (given cs) 1 texts)
       → (r : Result (Unit {0}) ReplayStop) (told : Option (List ℕ)) → Ends r (λ r. OfText told (λ text. WillAnswer p text r)) → IsOk r → HaveNoValues cs
@@ -96,7 +99,7 @@ module _ (cs : List (List Literal)) (most : ℕ) (p : Progress) (judge : p.judge
   refutes law only (Ok x) told h ok =
       let found = some_text (Ok tt) told h in
       let v = found.1.0 in
-      let accepted : TextComesTo cs most found.0 Accepted = subst (TextComesTo cs most found.0) (ok_accepts found.0 v found.1.2) found.1.1 in
+      let accepted : TextComesTo cs most found.0 Accepted = subst (TextComesTo cs most found.0) (ok_accepts most found.0 v found.1.2) found.1.1 in
       let checked = only (lines_within most found.0) accepted in
       law checked.2 checked.5
 

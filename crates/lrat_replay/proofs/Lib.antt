@@ -3,3 +3,5 @@ pub mod Stepping
 pub mod Answering
 pub mod Concluding
 pub mod Taking
+pub mod Proving
+pub mod Stopping

@@ -18,8 +18,8 @@ parts text = by (slice_split (λ b. nat_eq b 10) text) refl
     by [] e = let none : length (slice_split (λ b. nat_eq b 10) text) ≡ 0 = ap length e in absurd (omega (arith, length-slice_split (λ b. nat_eq b 10) text))
     by (p ∷ ps) e = (p, ps, e)
 
--- the lines behind the first one, of a whole text
-lines_of-line : (line rest : List ℕ) → HasNoEnd line → lines_of (line ++ 10 ∷ rest) ≡ line ∷ lines_of rest
+-- The lines behind the first one, of a whole text.
+pub lines_of-line : (line rest : List ℕ) → HasNoEnd line → lines_of (line ++ 10 ∷ rest) ≡ line ∷ lines_of rest
 lines_of-line line rest none =
     let e = parts rest in
     let s : slice_split (λ b. nat_eq b 10) (line ++ 10 ∷ rest) ≡ line ∷ (e.0 ∷ e.1) = slice_split_at (λ b. nat_eq b 10) line 10 rest none refl ∙ ap (λ (cut : List (List ℕ)). line ∷ cut) e.2 in
@@ -29,8 +29,8 @@ lines_of-line line rest none =
     cons [] p ps = refl
     cons (b ∷ bs) p ps = refl
 
--- the ended lines behind the first one
-ended_lines-line : (line rest : List ℕ) → HasNoEnd line → ended_lines (line ++ 10 ∷ rest) ≡ line ∷ ended_lines rest
+-- The ended lines behind the first one.
+pub ended_lines-line : (line rest : List ℕ) → HasNoEnd line → ended_lines (line ++ 10 ∷ rest) ≡ line ∷ ended_lines rest
 ended_lines-line line rest none =
     let e = parts rest in
     let s : slice_split (λ b. nat_eq b 10) (line ++ 10 ∷ rest) ≡ line ∷ (e.0 ∷ e.1) = slice_split_at (λ b. nat_eq b 10) line 10 rest none refl ∙ ap (λ (cut : List (List ℕ)). line ∷ cut) e.2 in

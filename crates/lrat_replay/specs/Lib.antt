@@ -6,3 +6,5 @@ pub mod Leads
 pub mod Standing
 pub mod Told
 pub mod Taken
+pub mod Behind
+pub mod Passed

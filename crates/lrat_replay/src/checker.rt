@@ -1,10 +1,12 @@
 //! The checker: reads the text piece by piece, and answers as soon as the lines decide.
 
-ghost use Rattle.std.specs.Prelude.{ℕ, ◌≡◌, ◌+◌, ◌-◌, ◌^◌, ◌<◌, ◌≤◌, List, Some, IfErr, IfOk, IsErrOf, IsOk, OnErr, false, length, vec_len};
+ghost use Rattle.std.specs.Prelude.{ℕ, ◌≡◌, ◌+◌, ◌-◌, ◌^◌, ◌<◌, ◌≤◌, List, Some, IfErr, IfOk, IsErrOf, IsOk, OnErr, false, true, length, vec_len};
 ghost use Rattle.bvd_host.specs.Causes.{HasCause};
 ghost use Rattle.bvd_host.specs.Given.{Gives, GivesAtMost};
 ghost use Rattle.sat_form.specs.Truth.{HaveNoValues};
 ghost use Rattle.lrat_replay.specs.Answer.{Answers, IsFromText};
+ghost use Rattle.lrat_replay.specs.Behind.{TookBehindProof};
+ghost use Rattle.lrat_replay.specs.Passed.{Passes, Stops, StopsAtLast};
 ghost use Rattle.lrat_replay.specs.Standing.{WillAnswer};
 ghost use Rattle.lrat_replay.specs.Taken.{TookAtMost};
 ghost use Rattle.lrat_replay.specs.Memory.{IsOutside};
@@ -62,6 +64,8 @@ fn advance<R: Source>(
     ensures too_long { IsErrOf result ReplayStop.TooLong → IsAbove (R.room source.old) progress.old.left }
     ensures taken { TookAtMost (R.left source.old) (R.left source.new) (progress.old.left + 1) }
     ensures went { IfOk result (λ ended. ended ≡ false → TookAtMost (R.left source.old) (R.left source.new) (progress.old.left - progress.new.left)) }
+    ensures passed { IfOk result (λ ended. ended ≡ false → Passes (R.left source.old) (R.left source.new) progress.old progress.new) }
+    ensures stopped { IfOk result (λ ended. ended ≡ true → Stops PIECE (R.left source.old) (R.left source.new) progress.old) }
     ensures room { IfOk result (λ ended. ended ≡ false → IsAbove (R.room source.new) progress.new.left → IsAbove (R.room source.old) progress.old.left) }
     ensures cause { HasCause ReplayStop.ReadFault (R.faults source.old) (R.faults source.new) result }
     ensures missing { R.missing source.new ≡ R.missing source.old }
@@ -82,6 +86,7 @@ fn run<R: Source>(alloc: Global, progress: &mut Progress, source: &mut R) -> Res
     requires { progress.old.judged + vec_len progress.old.begun + progress.old.left < 2 ^ 64 }
     ensures answers { Ends result (λ r. OfText (R.left source.old) (λ text. WillAnswer progress.old text r)) }
     ensures taken { TookAtMost (R.left source.old) (R.left source.new) (progress.old.left + 1) }
+    ensures stopped { IsOk result → StopsAtLast PIECE (R.left source.old) (R.left source.new) progress.old }
     ensures too_long { IsErrOf result ReplayStop.TooLong → IsAbove (R.room source.old) progress.old.left }
     ensures cause { HasCause ReplayStop.ReadFault (R.faults source.old) (R.faults source.new) result }
     ensures missing { R.missing source.new ≡ R.missing source.old }
@@ -115,7 +120,8 @@ fn run<R: Source>(alloc: Global, progress: &mut Progress, source: &mut R) -> Res
 /// - `ReadFault`: a read of this call failed, and the source's count of faults rose.
 /// - `Memory`: there was no memory.
 ///
-/// At most 65,536 bytes are read at once. Time: the reads, the bytes taken, and what judging takes. Memory: the clauses,
+/// At most 65,536 bytes are read at once, and after `Ok` at most 65,535 were taken behind the end of the line that adds
+/// the empty clause. Time: the reads, the bytes taken, and what judging takes. Memory: the clauses,
 /// one line, and one piece.
 pub fn replay<R: Source>(
     alloc: Global,
@@ -130,6 +136,8 @@ pub fn replay<R: Source>(
     ensures refuted { IsOk result → HaveNoValues cnf.now.clauses }
     ensures short { (room : ℕ) → R.room source.old ≡ Some room → room ≤ most → IsErrOf result ReplayStop.TooLong → ⊥ }
     ensures taken { TookAtMost (R.left source.old) (R.left source.new) (most + 1) }
+    // How much it takes behind the line that adds the empty clause.
+    ensures behind { (text : List ℕ) → R.left source.old ≡ Some text → IsOk result → TookBehindProof 65535 cnf.now.clauses text (R.left source.new) }
     ensures cause { HasCause ReplayStop.ReadFault (R.faults source.old) (R.faults source.new) result }
     // No read failed unless the answer says so.
     ensures unfailing { IsFromText result → R.faults source.new ≡ R.faults source.old }

@@ -1,7 +1,7 @@
 //! How far a replay has come. A line that is whole in a piece is judged where it lies; only one that a piece's end cuts is
 //! put together.
 
-ghost use Rattle.std.specs.Prelude.{ℕ, ◌≡◌, ◌+◌, ◌^◌, ◌-◌, ◌<◌, ◌≤◌, ◌∷◌, ◌++◌, List, [], IfErr, IfOk, IfNone, IfSome, IsErrOf, IsOk, OnOk, false, length, vec_len};
+ghost use Rattle.std.specs.Prelude.{ℕ, ◌≡◌, ◌+◌, ◌^◌, ◌-◌, ◌<◌, ◌≤◌, ◌∷◌, ◌++◌, List, [], IfErr, IfOk, IfNone, IfSome, IsErrOf, IsOk, OnOk, false, true, length, vec_len};
 ghost use Rattle.lrat_lines.specs.Judge.{given};
 ghost use Rattle.lrat_lines.specs.Replay.{ComesTo};
 ghost use Rattle.lrat_lines.specs.Replay.Verdict.{Undecided};
@@ -61,6 +61,7 @@ fn split_line(bytes: &[u8]) -> Option<(&[u8], &[u8])>
 }
 
 impl Progress {
+    ghost use Rattle.lrat_replay.specs.Passed.{Accepts, GoesOn};
     ghost use Rattle.lrat_replay.specs.Standing.{WillAnswer, WillComeTo};
 
     /// Nothing is judged.
@@ -119,6 +120,8 @@ impl Progress {
     pub(crate) fn take(&mut self, alloc: Global, bytes: &[u8]) -> Result<bool, ReplayStop>
         requires { self.old.judged + vec_len self.old.begun + self.old.left < 2 ^ 64 }
         ensures answers { (rest : List ℕ) → Brings result (WillAnswer self.old (bytes.now ++ rest)) (WillAnswer self.new rest) }
+        ensures accepts { IfOk result (λ ended. ended ≡ true → Accepts self.old bytes.now) }
+        ensures goes_on { IfOk result (λ ended. ended ≡ false → GoesOn self.old bytes.now self.new) }
         ensures taken { IfOk result (λ ended. ended ≡ false → self.old.left ≡ self.new.left + length bytes.now) }
         ensures judged { IfOk result (λ ended. ended ≡ false → self.new.judged + vec_len self.new.begun + self.new.left < 2 ^ 64) }
         ensures too_long { IsErrOf result ReplayStop.TooLong → self.old.left < length bytes.now }

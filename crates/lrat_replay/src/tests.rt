@@ -1,7 +1,7 @@
-//! Certificates over the clauses `1` and `-1`, in pieces of several sizes, and reads that fail.
+//! Certificates over the clauses `1` and `-1` and over those of a goal, in pieces of several sizes, and reads that fail.
 
 use crate::replay;
-use bvd_host::SliceSource;
+use bvd_host::{SliceSource, Source};
 use sat_form::{Clauses, Cnf, Lit};
 use std::alloc::{AllocError, Global};
 use std::test::Fail;
@@ -14,17 +14,71 @@ fn opposite_units(alloc: Global) -> Result<Cnf, AllocError> {
     Ok(Cnf { vars: 1, clauses })
 }
 
+/// The clauses that say that `(a && (b && c)) = ((a && b) && c)` is false, 0 filling a row up.
+const ASSOCIATIVITY: [[i32; 3]; 23] = [
+    [1, 0, 0],
+    [-5, 3, 0],
+    [-5, 4, 0],
+    [5, -3, -4],
+    [-6, 2, 0],
+    [-6, 5, 0],
+    [6, -2, -5],
+    [-7, 2, 0],
+    [-7, 3, 0],
+    [7, -2, -3],
+    [-8, 4, 0],
+    [-8, 7, 0],
+    [8, -4, -7],
+    [-9, 6, 0],
+    [-9, 8, 0],
+    [9, -6, -8],
+    [-10, -6, 0],
+    [-10, -8, 0],
+    [10, 6, 8],
+    [-11, -9, 0],
+    [-11, -10, 0],
+    [11, 9, 10],
+    [11, 0, 0],
+];
+
+const ASSOCIATIVITY_PROOF: &[u8] = b"24 2 0 23 21 5 8 12 19 0
+25 3 0 23 21 2 9 6 12 19 0
+26 4 0 23 21 3 11 6 19 0
+27 0 23 20 24 25 10 26 4 13 7 16 0
+";
+
+/// The literals of a row.
+fn clause_of(alloc: Global, row: &[i32]) -> Result<Vec<Lit>, AllocError> {
+    let mut clause = Vec::new(alloc);
+    for number in row {
+        let var = number.unsigned_abs();
+        if 0 < var && var < 12 {
+            clause.push(Lit::new(var, *number > 0))?;
+        }
+    }
+    Ok(clause)
+}
+
+/// The clauses of the goal.
+fn associativity(alloc: Global) -> Result<Cnf, AllocError> {
+    let mut clauses = Clauses::new(alloc);
+    for row in &ASSOCIATIVITY {
+        clauses.push(&clause_of(alloc, row)?)?;
+    }
+    Ok(Cnf { vars: 11, clauses })
+}
+
 /// What a text is answered that comes in pieces, where the reads with these numbers fail.
 fn answer(
     alloc: Global,
+    cnf: &Cnf,
     text: &[u8],
     piece: usize,
     most: u64,
     failing: Vec<u64>,
 ) -> Result<String, AllocError> {
-    let cnf = opposite_units(alloc)?;
     let mut source = SliceSource::new(text, piece.max(1), failing);
-    match replay(alloc, &cnf, &mut source, most) {
+    match replay(alloc, cnf, &mut source, most) {
         Ok(()) => format!(in alloc; "Ok"),
         Err(stop) => format!(in alloc; "{stop:?}"),
     }
@@ -58,9 +112,10 @@ const ROWS: [(&[u8], u64, &str); 22] = [
 #[test]
 fn answers_are_those_of_the_text(rt: HostRuntime) -> Result<(), Fail> {
     let alloc = rt.alloc();
+    let cnf = opposite_units(alloc)?;
     for (text, most, wanted) in &ROWS {
         for piece in [1usize, 7, 100] {
-            let given = answer(alloc, text, piece, *most, Vec::new(alloc))?;
+            let given = answer(alloc, &cnf, text, piece, *most, Vec::new(alloc))?;
             let told = str::from_utf8(text).unwrap_or("no text");
             assert_eq!(rt; given.as_str(), *wanted, "{told} in pieces of {piece}");
         }
@@ -71,9 +126,10 @@ fn answers_are_those_of_the_text(rt: HostRuntime) -> Result<(), Fail> {
 #[test]
 fn reads_that_fail(rt: HostRuntime) -> Result<(), Fail> {
     let alloc = rt.alloc();
+    let cnf = opposite_units(alloc)?;
     let text = b"3 0 1 2 0\n4 0 1 2 0";
     for (call, wanted) in [(1u64, "ReadFault"), (10, "ReadFault"), (11, "Ok")] {
-        let given = answer(alloc, text, 1, 100, vec![in alloc; call]?)?;
+        let given = answer(alloc, &cnf, text, 1, 100, vec![in alloc; call]?)?;
         assert_eq!(rt; given.as_str(), wanted, "read {call} failing");
     }
     Ok(())
@@ -82,14 +138,47 @@ fn reads_that_fail(rt: HostRuntime) -> Result<(), Fail> {
 #[test]
 fn a_line_longer_than_a_piece(rt: HostRuntime) -> Result<(), Fail> {
     let alloc = rt.alloc();
+    let cnf = opposite_units(alloc)?;
     let mut text = Vec::new(alloc);
     text.resize(200_000, b'c')?;
     text.extend_from_slice(b"\n3 7 0 0\n4 0 2 0")?;
     for most in [200_016u64, u64::MAX] {
-        let given = answer(alloc, &text, 65536, most, Vec::new(alloc))?;
+        let given = answer(alloc, &cnf, &text, 65536, most, Vec::new(alloc))?;
         assert_eq!(rt; given.as_str(), "NoConflict(3)", "{most} bytes");
     }
-    let given = answer(alloc, &text, 1_000_000, 200_015, Vec::new(alloc))?;
+    let given = answer(alloc, &cnf, &text, 1_000_000, 200_015, Vec::new(alloc))?;
     assert_eq!(rt; given.as_str(), "TooLong", "a byte too many");
+    Ok(())
+}
+
+#[test]
+fn a_goals_certificate_in_pieces(rt: HostRuntime) -> Result<(), Fail> {
+    let alloc = rt.alloc();
+    let cnf = associativity(alloc)?;
+    for piece in [1usize, 2, 7, 4096] {
+        let given = answer(
+            alloc,
+            &cnf,
+            ASSOCIATIVITY_PROOF,
+            piece,
+            u64::MAX,
+            Vec::new(alloc),
+        )?;
+        assert_eq!(rt; given.as_str(), "Ok", "in pieces of {piece}");
+    }
+    Ok(())
+}
+
+/// The read that fails would be the second one: it is still to come afterwards, so no read has failed.
+#[test]
+fn what_follows_the_empty_clause_is_not_read(rt: HostRuntime) -> Result<(), Fail> {
+    let alloc = rt.alloc();
+    let cnf = opposite_units(alloc)?;
+    let mut text = Vec::new(alloc);
+    text.extend_from_slice(b"3 0 1 2 0\n")?;
+    text.resize(200_010, b'x')?;
+    let mut source = SliceSource::new(&text, 65536, vec![in alloc; 2u64]?);
+    assert!(rt; replay(alloc, &cnf, &mut source, u64::MAX).is_ok());
+    assert!(rt; source.read(&mut [0u8; 1]).is_err());
     Ok(())
 }

@@ -3,6 +3,7 @@ use Rattle.lrat_replay.specs.Taken.{TookAtMost}
 use Rattle.lrat_replay.proofs.Taking.{took_none}
 use Rattle.lrat_lines.specs.Judge.{given}
 use Rattle.lrat_replay.proofs.Concluding.{exactly, never_short, of_some, refutes}
+use Rattle.lrat_replay.proofs.Stopping.{took_behind}
 use Rattle.lrat_replay.proofs.checker.replay.Goals as goal
 
 pub returns-clause-exact : goal.returns-clause-exact
@@ -30,3 +31,8 @@ returns-in_err-progress-clause-taken g c = took_none (g.R.Source.left c.args.sou
 pub returns-clause-taken : goal.returns-clause-taken
 returns-clause-taken g c =
     subst (λ (n : ℕ). TookAtMost (g.R.Source.left c.args.source.now) (g.R.Source.left c.run.new.source) (n + 1)) c.in_ok-progress.ensures.left c.run.ensures.taken
+
+pub returns-clause-behind : goal.returns-clause-behind
+returns-clause-behind g c text told ok =
+    let new = c.in_ok-progress.ensures in
+    took_behind c.args.cnf.now.clauses c.in_ok-progress.progress new.judge new.begun new.judged 65535 text (g.R.Source.left c.args.source.now) (g.R.Source.left c.run.new.source) (c.run.ensures.stopped ok) told

@@ -7,6 +7,7 @@ use Rattle.lrat_replay.specs.Standing.{WillAnswer}
 use Rattle.lrat_replay.specs.Told.{OfText}
 use Rattle.lrat_replay.specs.declared.stop.ReplayStop.TheVariants.{ReadFault, TooLong}
 use Rattle.lrat_replay.proofs.Answering.{ended_ok, left_open, memory_outside}
+use Rattle.lrat_replay.proofs.Stopping.{passes_more, passes_none}
 use Rattle.lrat_replay.proofs.Taking.{took_more, took_none}
 use Rattle.lrat_replay.proofs.checker.run.Goals as goal
 
@@ -55,6 +56,7 @@ pieces-preserved g c = record {
   taken =
       let less = c.in_ok-advance.ensures.shorter c.if-branch.false in
       took_more (g.R.Source.left c.args.source.now) (g.R.Source.left c.pieces.source) (g.R.Source.left c.advance.new.source) (c.args.progress.now.left - c.pieces.progress.left) (c.pieces.progress.left - c.advance.new.progress.left) (c.args.progress.now.left - c.advance.new.progress.left) c.pieces.invariant.taken (c.in_ok-advance.ensures.went c.if-branch.false) (omega (arith, less, c.pieces.invariant.within));
+  passed = passes_more (g.R.Source.left c.args.source.now) (g.R.Source.left c.pieces.source) (g.R.Source.left c.advance.new.source) c.args.progress.now c.pieces.progress c.advance.new.progress c.pieces.invariant.passed (c.in_ok-advance.ensures.passed c.if-branch.false);
   room = λ above. c.pieces.invariant.room (c.in_ok-advance.ensures.room c.if-branch.false above);
   faults = c.in_ok-advance.ensures.cause.spared (λ failed. cc) ∙ c.pieces.invariant.faults;
   missing = c.advance.ensures.missing ∙ c.pieces.invariant.missing;
@@ -69,6 +71,7 @@ pieces-init g c = record {
   answers = λ r h. h;
   within = omega arith;
   taken = took_none (g.R.Source.left c.args.source.now) (g.R.Source.left c.args.source.now) (c.args.progress.now.left - c.args.progress.now.left) refl;
+  passed = passes_none (g.R.Source.left c.args.source.now) c.args.progress.now;
   room = λ above. above;
   faults = refl;
   missing = refl;
@@ -86,3 +89,6 @@ returns-in_err-advance-clause-taken g c =
 pub returns-then-branch-clause-taken : goal.returns-then-branch-clause-taken
 returns-then-branch-clause-taken g c =
     took_more (g.R.Source.left c.args.source.now) (g.R.Source.left c.pieces.source) (g.R.Source.left c.advance.new.source) (c.args.progress.now.left - c.pieces.progress.left) (c.pieces.progress.left + 1) (c.args.progress.now.left + 1) c.pieces.invariant.taken c.advance.ensures.taken (omega (arith, c.pieces.invariant.within))
+
+pub returns-then-branch-clause-stopped : goal.returns-then-branch-clause-stopped
+returns-then-branch-clause-stopped g c _ = (g.R.Source.left c.pieces.source, c.pieces.progress, c.pieces.invariant.passed, c.in_ok-advance.ensures.stopped c.if-branch.true)

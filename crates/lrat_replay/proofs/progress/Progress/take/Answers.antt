@@ -3,7 +3,7 @@ use Rattle.std.proofs.lemmas.Grind.{common_steps}
 use Rattle.std.proofs.lemmas.List.{take-append-drop, length-take-le, take_all}
 use Rattle.std.proofs.lemmas.Result.{err_from_is_err_and}
 use Rattle.lrat_replay.specs.Standing.{WillComeTo}
-use Rattle.lrat_replay.proofs.Answering.{fed_accepted, fed_onward, fed_refused, fed_too_long}
+use Rattle.lrat_replay.proofs.Answering.{fed_accepted, fed_accepts, fed_goes, fed_onward, fed_refused, fed_too_long}
 use Rattle.lrat_replay.proofs.Stepping.{line_not_long, line_not_read}
 use Rattle.lrat_replay.proofs.progress.Progress.take.Goals as goal
 
@@ -52,3 +52,14 @@ returns-clause-answers c rest r answer =
     let within : n ≤ length c.args.bytes.now = search rules in
     let kept : c.feed.new.self.left ≡ c.args.self.now.left = search rules in
     fed_onward c.args.self.now c.feed.new.self c.args.bytes.now (take n c.args.bytes.now) c.in_ok-feed.field-0 rest (c.feed.new.self.left - n) r (sym (take_all n c.args.bytes.now all)) (omega arith) c.if-branch.false c.in_ok-feed.ensures.leads answer
+
+pub returns-then-branch-clause-accepts : goal.returns-then-branch-clause-accepts
+returns-then-branch-clause-accepts c _ =
+    let n = c.min-taken.result in
+    fed_accepts c.args.self.now c.feed.new.self c.args.bytes.now (take n c.args.bytes.now) (drop n c.args.bytes.now) c.in_ok-feed.field-0 (sym (take-append-drop n c.args.bytes.now)) c.if-branch.true c.in_ok-feed.ensures.leads
+
+pub returns-clause-goes_on : goal.returns-clause-goes_on
+returns-clause-goes_on c _ =
+    let n = c.min-taken.result in
+    let all : length c.args.bytes.now ≤ n = c.if-taken-bytes.false in
+    fed_goes c.args.self.now c.feed.new.self c.args.bytes.now (take n c.args.bytes.now) c.in_ok-feed.field-0 (sym (take_all n c.args.bytes.now all)) c.if-branch.false c.in_ok-feed.ensures.leads
