@@ -348,3 +348,6 @@ impl Plain {
         }
     }
 }
+
+#[cfg(test)]
+mod tests;
