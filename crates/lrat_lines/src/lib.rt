@@ -14,7 +14,7 @@ pub use laws::{
 };
 pub use line::{Line, LineStop};
 pub use reading::read_line;
-pub use writing::write_line;
+pub use writing::{write_addition, write_line};
 
 #[cfg(test)]
 mod tests;

@@ -71,6 +71,27 @@ fn append_line(line: &Line, out: &mut Vec<u8>) -> Result<(), AllocError>
     }
 }
 
+/// Appends the line that adds a clause under an id, from its parts, as `write_line` does: a caller who has them elsewhere
+/// makes no `Line` for it.
+///
+/// Where memory is wanting `out` is cut back to what it was. Takes time and memory by the length of the line's text.
+pub fn write_addition(
+    id: u64,
+    lits: &[Lit],
+    hints: &[i64],
+    out: &mut Vec<u8>,
+) -> Result<(), AllocError>
+    ensures ok { OnOk result (out.new.items ≡ out.old.items ++ written_line (Add id lits.now hints.now)) }
+    ensures err { OnErr result (out.new.items ≡ out.old.items) }
+{
+    let before = out.len();
+    let written = append_addition(id, lits, hints, out);
+    if written.is_err() {
+        out.truncate(before);
+    }
+    written
+}
+
 /// Appends a line in its one spelling: single spaces, and LF behind it.
 ///
 /// Where memory is wanting `out` is cut back to what it was. Takes time and memory by the length of the line's text.

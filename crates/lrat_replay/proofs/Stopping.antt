@@ -1,19 +1,18 @@
 -- How much a replay has taken behind the line of the empty clause.
 use Rattle.std.proofs.Common.{◌≡◌, ℕ, ◌+◌, ◌<◌, ◌≤◌, Bool, true, false, List, [], ◌∷◌, ◌++◌, length, take, inl, inr, refl, ap, sym, ◌∙◌, subst, arith, append_assoc, append-nil, length-append}
-use Rattle.std.specs.Prelude.{◌⊎◌, Option, None, Some, Result, Ok, Err, IfOk, nat_le, if◌then◌else◌}
+use Rattle.std.specs.Prelude.{Option, None, Some, Result, Ok, Err, IfOk, nat_le, if◌then◌else◌}
 use Rattle.std.proofs.lemmas.Bool.{le-leb}
 use Rattle.std.proofs.lemmas.Bool.Decides.{nat_tests}
 use Rattle.std.proofs.Math.Seq.{take-append_seam}
 use Rattle.sat_form.specs.Literals.{Literal}
 use Rattle.bvd_host.specs.Given.{Gives}
-use Rattle.lrat_lines.specs.Judge.{Clauses, given}
+use Rattle.lrat_lines.specs.Judge.{given}
 use Rattle.lrat_lines.specs.Lines.{lines_of}
-use Rattle.lrat_lines.specs.Replay.{Verdict, ComesTo, ended_lines, lines_within}
+use Rattle.lrat_lines.specs.Replay.{ComesTo, ended_lines, lines_within}
 use Rattle.lrat_lines.specs.Replay.Verdict.{Accepted, Undecided}
 use Rattle.lrat_replay.specs.Behind.{TookBehindProof}
 use Rattle.lrat_replay.specs.Passed.{Accepts, GoesOn, IsAccepting, Passes, Stops, StopsAtLast}
 use Rattle.lrat_replay.specs.Standing.{WillAnswer, WillComeTo}
-use Rattle.lrat_replay.specs.Taken.{TookAtMost}
 use Rattle.lrat_replay.specs.declared.progress.Progress.{Progress}
 use Rattle.lrat_replay.specs.declared.stop.ReplayStop.{ReplayStop}
 use Rattle.lrat_replay.proofs.Concluding.{from_start, ok_accepts}

@@ -1,5 +1,8 @@
 //! Certificates over the clauses `1` and `-1` and over those of a goal, in pieces of several sizes, and reads that fail.
 
+ghost use Rattle.std.specs.Prelude.{◌≡◌, true};
+ghost use Rattle.sat_form.specs.Shape.{are_within, variables_within};
+
 use crate::replay;
 use bvd_host::{SliceSource, Source};
 use sat_form::{Clauses, Cnf, Lit};
@@ -14,31 +17,11 @@ fn opposite_units(alloc: Global) -> Result<Cnf, AllocError> {
     Ok(Cnf { vars: 1, clauses })
 }
 
-/// The clauses that say that `(a && (b && c)) = ((a && b) && c)` is false, 0 filling a row up.
-const ASSOCIATIVITY: [[i32; 3]; 23] = [
-    [1, 0, 0],
-    [-5, 3, 0],
-    [-5, 4, 0],
-    [5, -3, -4],
-    [-6, 2, 0],
-    [-6, 5, 0],
-    [6, -2, -5],
-    [-7, 2, 0],
-    [-7, 3, 0],
-    [7, -2, -3],
-    [-8, 4, 0],
-    [-8, 7, 0],
-    [8, -4, -7],
-    [-9, 6, 0],
-    [-9, 8, 0],
-    [9, -6, -8],
-    [-10, -6, 0],
-    [-10, -8, 0],
-    [10, 6, 8],
-    [-11, -9, 0],
-    [-11, -10, 0],
-    [11, 9, 10],
-    [11, 0, 0],
+/// The clauses that say that `(a && (b && c)) = ((a && b) && c)` is false, each ended by 0.
+const ASSOCIATIVITY: [i32; 74] = [
+    1, 0, -5, 3, 0, -5, 4, 0, 5, -3, -4, 0, -6, 2, 0, -6, 5, 0, 6, -2, -5, 0, -7, 2, 0, -7, 3, 0,
+    7, -2, -3, 0, -8, 4, 0, -8, 7, 0, 8, -4, -7, 0, -9, 6, 0, -9, 8, 0, 9, -6, -8, 0, -10, -6, 0,
+    -10, -8, 0, 10, 6, 8, 0, -11, -9, 0, -11, -10, 0, 11, 9, 10, 0, 11, 0,
 ];
 
 const ASSOCIATIVITY_PROOF: &[u8] = b"24 2 0 23 21 5 8 12 19 0
@@ -47,25 +30,53 @@ const ASSOCIATIVITY_PROOF: &[u8] = b"24 2 0 23 21 5 8 12 19 0
 27 0 23 20 24 25 10 26 4 13 7 16 0
 ";
 
-/// The literals of a row.
-fn clause_of(alloc: Global, row: &[i32]) -> Result<Vec<Lit>, AllocError> {
-    let mut clause = Vec::new(alloc);
-    for number in row {
+/// Clauses over the variables 1 to 11 that are written down: those so far, and the one whose end hasn't come.
+#[derive(Drop)]
+struct Draft {
+    clause: Vec<Lit>,
+    clauses: Clauses,
+    ghost within: { are_within 11 clause.items ≡ true },
+    ghost closed: { variables_within 11 clauses ≡ true },
+}
+
+impl Draft {
+    /// Takes a literal of the open clause, or the 0 behind it.
+    fn take(&mut self, number: i32) -> Result<(), AllocError> {
         let var = number.unsigned_abs();
-        if 0 < var && var < 12 {
-            clause.push(Lit::new(var, *number > 0))?;
+        if number == 0 {
+            self.clauses.push(&self.clause)?;
+            self.clause.clear();
+        } else if var < 12 {
+            self.clause.push(Lit::new(var, number > 0))?;
         }
+        Ok(())
     }
-    Ok(clause)
+}
+
+/// No clause.
+fn empty(alloc: Global) -> Draft {
+    Draft {
+        clause: Vec::new(alloc),
+        clauses: Clauses::new(alloc),
+    }
+}
+
+/// The formula of the clauses, where they are few enough.
+fn formula(draft: Draft) -> Option<Cnf> {
+    let Draft { clauses, .. } = draft;
+    if clauses.len() >= 1 << 62 {
+        return None;
+    }
+    Some(Cnf { vars: 11, clauses })
 }
 
 /// The clauses of the goal.
-fn associativity(alloc: Global) -> Result<Cnf, AllocError> {
-    let mut clauses = Clauses::new(alloc);
-    for row in &ASSOCIATIVITY {
-        clauses.push(&clause_of(alloc, row)?)?;
+fn associativity(alloc: Global) -> Result<Option<Cnf>, AllocError> {
+    let mut draft = empty(alloc);
+    for number in &ASSOCIATIVITY {
+        draft.take(*number)?;
     }
-    Ok(Cnf { vars: 11, clauses })
+    Ok(formula(draft))
 }
 
 /// What a text is answered that comes in pieces, where the reads with these numbers fail.
@@ -154,7 +165,7 @@ fn a_line_longer_than_a_piece(rt: HostRuntime) -> Result<(), Fail> {
 #[test]
 fn a_goals_certificate_in_pieces(rt: HostRuntime) -> Result<(), Fail> {
     let alloc = rt.alloc();
-    let cnf = associativity(alloc)?;
+    let cnf = associativity(alloc)?.ok_or("too many clauses")?;
     for piece in [1usize, 2, 7, 4096] {
         let given = answer(
             alloc,

@@ -7,8 +7,7 @@ use Rattle.sat_form.specs.Literals.{Literal}
 use Rattle.sat_form.specs.Log.{Logged}
 use Rattle.sat_form.proofs.Numbers.{eq_not, eq_is, lt_is, is_lt}
 use Rattle.sat_form.proofs.Sets.{both, join, nat_is}
-use Rattle.lrat_trim.specs.declared.LogLine.{LogLine}
-use Rattle.lrat_trim.specs.Derivation.{is_earlier, are_earlier, hints_earlier, logged_from}
+use Rattle.lrat_trim.specs.Derivation.{LogLine, is_earlier, are_earlier, hints_earlier, logged_from}
 use Rattle.lrat_trim.specs.Marks.{mark_behind}
 
 set_here : (marks : List Bool) (place : ℕ) → place < length marks → get_or (set marks place true) place false ≡ true
@@ -82,21 +81,21 @@ pub behind_off : (m : ℕ) (marks : List Bool) (at : ℕ) (lits : List Literal) 
 behind_off m marks at lits hints j passed = sym (ap (λ b. (b && (nat_eq j at || list_any (nat_eq (m + 1 + j)) hints)) || get_or marks j false) passed)
 
 -- The hints of the line at a place are earlier.
-pub line_earlier : (id : ℕ) (lines : List LogLine) (i : ℕ) (l : LogLine) → hints_earlier id lines ≡ true → i < length lines → l ≡ get_or lines i l → are_earlier (id + i) l.hints.items ≡ true
-line_earlier id [] i l all inside is = absurd (omega arith)
-line_earlier id (k ∷ lines) zero l all inside is =
+pub line_earlier : (id : ℕ) (lines : List LogLine) (i : ℕ) (l d : LogLine) → hints_earlier id lines ≡ true → i < length lines → l ≡ get_or lines i d → are_earlier (id + i) l.hints ≡ true
+line_earlier id [] i l d all inside is = absurd (omega arith)
+line_earlier id (k ∷ lines) zero l d all inside is =
     let e : id + 0 ≡ id = omega arith in
-    ap (λ n. are_earlier n l.hints.items) e ∙ ap (λ (x : LogLine). are_earlier id x.hints.items) is ∙ (both (are_earlier id k.hints.items) (hints_earlier (id + 1) lines) all).0
-line_earlier id (k ∷ lines) (suc i) l all inside is =
+    ap (λ n. are_earlier n l.hints) e ∙ ap (λ (x : LogLine). are_earlier id x.hints) is ∙ (both (are_earlier id k.hints) (hints_earlier (id + 1) lines) all).0
+line_earlier id (k ∷ lines) (suc i) l d all inside is =
     let e : id + suc i ≡ id + 1 + i = omega arith in
-    ap (λ n. are_earlier n l.hints.items) e ∙ line_earlier (id + 1) lines i l (both (are_earlier id k.hints.items) (hints_earlier (id + 1) lines) all).1 (omega arith) is
+    ap (λ n. are_earlier n l.hints) e ∙ line_earlier (id + 1) lines i l d (both (are_earlier id k.hints) (hints_earlier (id + 1) lines) all).1 (omega arith) is
 
 -- the lines from a place on, with their ids
 abbrev pub rest_from : ℕ → List LogLine → ℕ → List Logged
 rest_from m lines at = logged_from (m + 1 + at) (drop at lines)
 
-pub rest_more : (m : ℕ) (lines : List LogLine) (at : ℕ) (l : LogLine) → at < length lines → l ≡ get_or lines at l
-    → rest_from m lines at ≡ record { id = m + 1 + at; lits = l.lits.items; hints = l.hints.items } ∷ rest_from m lines (at + 1)
-rest_more m lines at l inside is =
-    ap (logged_from (m + 1 + at)) (drop_more lines at l inside ∙ ap (λ x. x ∷ drop (at + 1) lines) (sym is))
-    ∙ ap (λ n. record { id = m + 1 + at; lits = l.lits.items; hints = l.hints.items } ∷ logged_from n (drop (at + 1) lines)) (let e : m + 1 + at + 1 ≡ m + 1 + (at + 1) = omega arith in e)
+pub rest_more : (m : ℕ) (lines : List LogLine) (at : ℕ) (l d : LogLine) → at < length lines → l ≡ get_or lines at d
+    → rest_from m lines at ≡ record { id = m + 1 + at; lits = l.lits; hints = l.hints } ∷ rest_from m lines (at + 1)
+rest_more m lines at l d inside is =
+    ap (logged_from (m + 1 + at)) (drop_more lines at d inside ∙ ap (λ x. x ∷ drop (at + 1) lines) (sym is))
+    ∙ ap (λ n. record { id = m + 1 + at; lits = l.lits; hints = l.hints } ∷ logged_from n (drop (at + 1) lines)) (let e : m + 1 + at + 1 ≡ m + 1 + (at + 1) = omega arith in e)

@@ -8,8 +8,7 @@ use Rattle.sat_form.proofs.Numbers.{eq_not, eq_is, lt_is, le_not, isnt_le}
 use Rattle.sat_form.proofs.Sets.{both, join}
 use Rattle.lrat_lines.specs.Lines.{Line, is_id}
 use Rattle.lrat_lines.specs.Lines.Line.{Add}
-use Rattle.lrat_trim.specs.declared.LogLine.{LogLine}
-use Rattle.lrat_trim.specs.Derivation.{logged_from, are_earlier}
+use Rattle.lrat_trim.specs.Derivation.{LogLine, logged_from, are_earlier}
 use Rattle.lrat_trim.specs.Marks.{marked_from, marks_in, are_marked, AreClosed, moved_hints}
 use Rattle.lrat_trim.specs.Trim.{new_id, renumbered}
 
@@ -23,7 +22,7 @@ place_later : (id : ℕ) (l : Logged) (ls : List Logged) → l.id ≢ id → pla
 place_later id l ls differ = ap (λ b. cond (not b) (1 + place_of id ls) 0) (eq_not l.id id differ)
 
 abbrev pub as_logged : ℕ → LogLine → Logged
-as_logged id l = record { id = id; lits = l.lits.items; hints = l.hints.items }
+as_logged id l = record { id = id; lits = l.lits; hints = l.hints }
 
 abbrev front : Bool → Logged → List Logged → List Logged
 front b l ls = cond b (l ∷ ls) ls
@@ -101,7 +100,7 @@ module _ (m : ℕ) (marks : List Bool) (all : List LogLine) (kept : List Logged)
       ] refl on.0 in
       (λ i. pos (one i) ∷ hints_moved at ids hints inside ids_are parts.1 on.1 i)
 
-  module _ (at : ℕ) (line : LogLine) (rest : List Logged) (ids : List ℕ) (new : List Line) (inside : at < length all) (earlier : are_earlier (m + 1 + at) line.hints.items ≡ true)
+  module _ (at : ℕ) (line : LogLine) (rest : List Logged) (ids : List ℕ) (new : List Line) (inside : at < length all) (earlier : are_earlier (m + 1 + at) line.hints ≡ true)
       (old : IsRenumbered m marks kept at (as_logged (m + 1 + at) line ∷ rest) ids new) where
     abbrev id_here : ℕ
     id_here = m + length new + 1
@@ -149,16 +148,16 @@ module _ (m : ℕ) (marks : List Bool) (all : List LogLine) (kept : List Logged)
       closed = old.closed.1;
     }
 
-    pub taken_over : get_or marks at false ≡ true → IsRenumbered m marks kept (at + 1) rest (ids ++ id_here ∷ []) (new ++ Add id_here line.lits.items (moved_hints m ids line.hints.items) ∷ [])
+    pub taken_over : get_or marks at false ≡ true → IsRenumbered m marks kept (at + 1) rest (ids ++ id_here ∷ []) (new ++ Add id_here line.lits (moved_hints m ids line.hints) ∷ [])
     taken_over on =
         let place = place_all at (m + 1 + at) refl inside on in
         let id_is : id_here ≡ new_id m kept (m + 1 + at) = here_is ∙ sym (new_is m (m + 1 + at) (marks_in marks 0 at) kept (omega arith) place) in
-        let hints_are = hints_moved at ids line.hints.items (omega arith) old.moved earlier (old.closed.0 on) in
-        let line_is : Add id_here line.lits.items (moved_hints m ids line.hints.items) ≡ renumbered m kept (as_logged (m + 1 + at) line) = λ i. Add (id_is i) line.lits.items (hints_are i) in
+        let hints_are = hints_moved at ids line.hints (omega arith) old.moved earlier (old.closed.0 on) in
+        let line_is : Add id_here line.lits (moved_hints m ids line.hints) ≡ renumbered m kept (as_logged (m + 1 + at) line) = λ i. Add (id_is i) line.lits (hints_are i) in
         record {
           size = next_size;
           moved = next_ids;
-          count = length-append new (Add id_here line.lits.items (moved_hints m ids line.hints.items) ∷ []) ∙ ap (λ n. n + 1) old.count ∙ sym (next_count true on);
+          count = length-append new (Add id_here line.lits (moved_hints m ids line.hints) ∷ []) ∙ ap (λ n. n + 1) old.count ∙ sym (next_count true on);
           lines =
               ap (λ x. (new ++ x ∷ []) ++ map (renumbered m kept) (marked_from marks (at + 1) rest)) line_is
               ∙ append_assoc new (renumbered m kept (as_logged (m + 1 + at) line) ∷ []) (map (renumbered m kept) (marked_from marks (at + 1) rest))

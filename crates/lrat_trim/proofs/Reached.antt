@@ -13,8 +13,7 @@ use Rattle.sat_form.proofs.Sets.{both, either_left, either_right, one_of, neithe
 use Rattle.lrat_lines.specs.declared.line.Line.{Line}
 use Rattle.lrat_lines.specs.Lines as lines
 use Rattle.lrat_lines.specs.Seen.{seen}
-use Rattle.lrat_trim.specs.declared.LogLine.{LogLine}
-use Rattle.lrat_trim.specs.Derivation.{are_earlier, hints_earlier, logged_from}
+use Rattle.lrat_trim.specs.Derivation.{LogLine, are_earlier, hints_earlier, logged_from}
 use Rattle.lrat_trim.specs.Derived.{AreNumbered, TrimmedReached}
 use Rattle.lrat_trim.specs.Trim.{IsTrimmed, Kept, Reaches, all_renumbered, keep, is_needed, trim}
 use Rattle.lrat_trim.specs.Trim.Reaches.{empty_clause, hint}
@@ -240,4 +239,4 @@ if_trimmed m log numbered (Err e) is = tt
 -- The lines of a log, as it keeps them, are numbered.
 pub logged_numbered : (id : ℕ) (lines : List LogLine) → hints_earlier id lines ≡ true → AreNumbered id (logged_from id lines)
 logged_numbered id [] h = tt
-logged_numbered id (l ∷ lines) h = let parts = both (are_earlier id l.hints.items) (hints_earlier (id + 1) lines) h in (refl, parts.0, logged_numbered (id + 1) lines parts.1)
+logged_numbered id (l ∷ lines) h = let parts = both (are_earlier id l.hints) (hints_earlier (id + 1) lines) h in (refl, parts.0, logged_numbered (id + 1) lines parts.1)

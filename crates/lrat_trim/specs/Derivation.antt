@@ -1,8 +1,8 @@
 -- What a log is: learnt clauses with their hints, numbered behind the given clauses.
 use Rattle.std.specs.Prelude.{◌≡◌, ◌≢◌, ℕ, ◌+◌, ◌<◌, ◌≤◌, ◌^◌, Bool, true, ◌&&◌, nat_lt, List, [], ◌∷◌, length}
 use Rattle.std.specs.List.{list_all}
+use Rattle.sat_form.specs.Literals.{Literal}
 use Rattle.sat_form.specs.Log.{Logged}
-use Rattle.lrat_trim.specs.declared.LogLine.{LogLine}
 
 -- A log over so many given clauses; these have the ids 1 to inputs.
 pub record Derivation : Type 0 where
@@ -26,15 +26,20 @@ IsFinished [] = ⊥
 IsFinished (l ∷ []) = l.lits ≡ []
 IsFinished (l ∷ k ∷ ls) = (l.lits ≢ []) × IsFinished (k ∷ ls)
 
+-- A learnt clause and its hints, as they are kept: the id is the line's place.
+pub record LogLine : Type 0 where
+  pub lits : List Literal
+  pub hints : List ℕ
+
 -- lines as they are kept, with the ids from this one on
 abbrev pub logged_from : ℕ → List LogLine → List Logged
 logged_from id [] = []
-logged_from id (l ∷ ls) = record { id = id; lits = l.lits.items; hints = l.hints.items } ∷ logged_from (id + 1) ls
+logged_from id (l ∷ ls) = record { id = id; lits = l.lits; hints = l.hints } ∷ logged_from (id + 1) ls
 
 -- the hints of each are earlier
 abbrev pub hints_earlier : ℕ → List LogLine → Bool
 hints_earlier id [] = true
-hints_earlier id (l ∷ ls) = are_earlier id l.hints.items && hints_earlier (id + 1) ls
+hints_earlier id (l ∷ ls) = are_earlier id l.hints && hints_earlier (id + 1) ls
 
 -- What the type of a log keeps.
 pub record IsLog (inputs : ℕ) (lines : List LogLine) : Type 0 where

@@ -1,4 +1,5 @@
 pub mod Trim
 pub mod Derivation
+pub mod Flat
 pub mod Marks
 pub mod Derived

@@ -9,7 +9,7 @@ ghost use Rattle.lrat_trim.specs.Derivation.{IsLog, are_earlier, is_earlier, log
 ghost use Rattle.lrat_trim.specs.Marks.{AreClosed, marked_from, moved_hints, moved_id};
 ghost use Rattle.lrat_trim.specs.Trim.{keep, trim};
 
-use crate::LogLine;
+use crate::lines::Lines;
 use lrat_lines::Line;
 use sat_form::Lit;
 use std::alloc::{AllocError, Global};
@@ -42,11 +42,11 @@ fn moved(inputs: u64, ids: &[u64], id: u64) -> u64
 }
 
 /// The hints with the new ids of the lines before, which are given by place.
-fn moved_hints(
+pub(crate) fn moved_hints(
     alloc: Global,
     inputs: u64,
     ids: &[u64],
-    hints: &[u64],
+    hints: &[u32],
 ) -> Result<Vec<i64>, AllocError>
     requires inputs { inputs < 2 ^ 62 }
     requires known { are_earlier (inputs + 1 + length ids.now) hints.now ≡ true }
@@ -56,7 +56,7 @@ fn moved_hints(
 {
     let mut new = Vec::with_capacity(alloc, hints.len())?;
     for hint in hints {
-        new.push(moved(inputs, ids, *hint) as i64)?;
+        new.push(moved(inputs, ids, u64::from(*hint)) as i64)?;
     }
     Ok(new)
 }
@@ -67,19 +67,20 @@ fn moved_line(
     inputs: u64,
     id: u64,
     ids: &[u64],
-    line: &LogLine,
+    lits: &[Lit],
+    hints: &[u32],
 ) -> Result<Line, AllocError>
     requires inputs { inputs < 2 ^ 62 }
     requires id { is_id id ≡ true }
-    requires known { are_earlier (inputs + 1 + length ids.now) line.now.hints.items ≡ true }
+    requires known { are_earlier (inputs + 1 + length ids.now) hints.now ≡ true }
     requires ids { list_all is_id ids.now ≡ true }
-    ensures moved { IfOk result (λ moved. seen moved ≡ Add id line.now.lits.items (moved_hints inputs ids.now line.now.hints.items)) }
+    ensures moved { IfOk result (λ moved. seen moved ≡ Add id lits.now (moved_hints inputs ids.now hints.now)) }
     ensures writable { IfOk result (λ moved. is_writable (seen moved) ≡ true) }
 {
     Ok(Line::Add {
         id,
-        lits: copied_literals(alloc, &line.lits)?,
-        hints: moved_hints(alloc, inputs, ids, &line.hints)?,
+        lits: copied_literals(alloc, lits)?,
+        hints: moved_hints(alloc, inputs, ids, hints)?,
     })
 }
 
@@ -87,7 +88,7 @@ fn moved_line(
 pub fn marked_lines(
     alloc: Global,
     inputs: u64,
-    lines: &[LogLine],
+    lines: &Lines,
     marks: &[bool],
 ) -> Result<Vec<Line>, AllocError>
     requires log { IsLog inputs lines.now }
@@ -99,10 +100,11 @@ pub fn marked_lines(
 {
     let mut ids = Vec::new(alloc);
     let mut new = Vec::new(alloc);
-    for (at, line) in lines.iter().enumerate() {
+    for (at, marked) in marks.iter().enumerate() {
         let id = inputs + new.len() as u64 + 1;
-        if marks[at] {
-            new.push(moved_line(alloc, inputs, id, &ids, line)?)?;
+        if *marked {
+            let (lits, hints) = lines.line(at);
+            new.push(moved_line(alloc, inputs, id, &ids, lits, hints)?)?;
         }
         ids.push(id)?;
     }

@@ -5,5 +5,4 @@ use Rattle.lrat_trim.proofs.Log.trim.Goals as goal
 pub returns-clause-reached : goal.returns-clause-reached
 returns-clause-reached c =
     let p = c.self.inside in
-    let lines = rw c.deref-2.ensures.value at c.marked_lines.ensures.lines in
-    rw (← c.self.view_is) (if_trimmed p.inputs _ (logged_numbered (p.inputs + 1) p.lines.items c.self.invariant.earlier) c.marked_lines.result lines)
+    rw (← c.self.view_is) (if_trimmed p.inputs _ (logged_numbered (p.inputs + 1) p.lines c.self.invariant.earlier) c.marked_lines.result c.marked_lines.ensures.lines)

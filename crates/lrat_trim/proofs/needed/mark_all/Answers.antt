@@ -1,4 +1,4 @@
-use Rattle.std.proofs.Common.{◌+◌, ◌||◌, ◌∙◌, ap, false, nat_eq, get_or, length, arith}
+use Rattle.std.proofs.Common.{◌≡◌, ◌+◌, ◌||◌, ◌∙◌, ap, false, nat_eq, get_or, length, arith, rules}
 use Rattle.std.specs.List.{list_any}
 use Rattle.std.proofs.lemmas.List.{take_all}
 use Rattle.lrat_trim.proofs.Marking.{any_next, earlier_at}
@@ -16,7 +16,9 @@ loop-hint-preserved c =
     λ j inside.
     let k = c.args.inputs + 1 + j in
     let size = c.mark_id.auto.marks in
+    let named : c.from.result ≡ get_or c.args.hints.now c.loop-hint.hint-index 0 = search rules in
     c.mark_id.ensures j (omega arith)
+    ∙ ap (λ n. nat_eq k n || get_or c.loop-hint.marks j false) named
     ∙ ap (λ b. nat_eq k (get_or c.args.hints.now c.loop-hint.hint-index 0) || b) (c.loop-hint.invariant j (omega arith))
     ∙ any_next (nat_eq k) c.args.hints.now c.loop-hint.hint-index (get_or c.args.marks.now j false) c.loop-hint-test.true
 

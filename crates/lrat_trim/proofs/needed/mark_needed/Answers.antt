@@ -6,5 +6,4 @@ pub mark_all-requires : goal.mark_all-requires
 mark_all-requires c =
     let at = c.requires.at in
     let size = length-set c.args.marks.now c.args.at true in
-    rw c.deref.ensures.value
-    (earlier_more (c.args.inputs + 1 + c.args.at) (c.args.inputs + 1 + length (slice_set c.args.marks.now c.args.at true)) c.args.line.now.hints.items (omega arith) c.requires.earlier)
+    earlier_more (c.args.inputs + 1 + c.args.at) (c.args.inputs + 1 + length (slice_set c.args.marks.now c.args.at true)) c.args.hints.now (omega arith) c.requires.earlier

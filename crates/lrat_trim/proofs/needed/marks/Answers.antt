@@ -1,6 +1,8 @@
 use Rattle.std.proofs.Common.{◌≡◌, ◌+◌, ◌-◌, ◌∙◌, refl, ap, sym, subst, ℕ, Bool, List, length, length-drop, drop, arith}
 use Rattle.std.proofs.lemmas.List.{with_items_is}
 use Rattle.sat_form.specs.Log.{Logged}
+use Rattle.lrat_trim.specs.Derivation.{LogLine}
+use Rattle.lrat_trim.specs.Flat.{no_line}
 use Rattle.lrat_trim.proofs.Marked.{IsMarkedFrom, mark_step}
 use Rattle.lrat_trim.proofs.Marking.{line_earlier, rest_from, rest_more}
 use Rattle.lrat_trim.proofs.Pushed.{length_logged}
@@ -10,7 +12,8 @@ pub mark_needed-requires-clause-earlier : goal.mark_needed-requires-clause-earli
 mark_needed-requires-clause-earlier c =
     let low = c.loop-at-test.true in
     let within = c.loop-at.invariant.within in
-    line_earlier (c.args.inputs + 1) c.args.lines.now (c.loop-at.at - 1) c.index-lines-at.result c.requires.earlier (omega arith) c.index-lines-at.is
+    let line : LogLine = record { lits = c.line.result.0.now; hints = c.line.result.1.now } in
+    line_earlier (c.args.inputs + 1) c.args.lines.now (c.loop-at.at - 1) line no_line c.requires.earlier (omega arith) (sym c.line.ensures)
 
 pub loop-at-preserved : goal.loop-at-preserved
 loop-at-preserved c =
@@ -30,13 +33,14 @@ loop-at-preserved c =
     let next_is : c.loop-at.at ≡ next = omega arith in
     let rest = rest_from m lines next in
     let rest_size : length rest ≡ length lines - next = length_logged (m + 1 + next) (drop next lines) ∙ length-drop next lines in
-    let l : Logged = record { id = m + 1 + place; lits = c.index-lines-at.result.lits.items; hints = c.index-lines-at.result.hints.items } in
+    let line : LogLine = record { lits = c.line.result.0.now; hints = c.line.result.1.now } in
+    let l : Logged = record { id = m + 1 + place; lits = line.lits; hints = line.hints } in
     let stood = subst (λ (n : ℕ). IsMarkedFrom m old n (rest_from m lines n)) next_is inv.marked in
-    let earlier = line_earlier (m + 1) lines place c.index-lines-at.result c.requires.earlier (omega arith) c.index-lines-at.is in
+    let earlier = line_earlier (m + 1) lines place line no_line c.requires.earlier (omega arith) (sym c.line.ensures) in
     let marked = mark_step m (length lines) place old c.mark_needed.new.marks l rest refl earlier size (omega arith) stood (λ j high. rw lent at (c.mark_needed.ensures j (omega arith))) in
     record {
       size = ap length back ∙ (let a = auto in omega arith);
       within = omega arith;
       marked = subst (λ (x : List Bool). IsMarkedFrom m x place (rest_from m lines place)) (sym back)
-          (subst (λ (x : List Logged). IsMarkedFrom m c.mark_needed.new.marks place x) (sym (rest_more m lines place c.index-lines-at.result (omega arith) c.index-lines-at.is)) marked);
+          (subst (λ (x : List Logged). IsMarkedFrom m c.mark_needed.new.marks place x) (sym (rest_more m lines place line no_line (omega arith) (sym c.line.ensures))) marked);
     }
