@@ -127,7 +127,7 @@ pub record Since (ts : List Terminal) (n k : ℕ) : Type 0 where
 same_some : {m n : ℕ} → Some m ≡ Some n → m ≡ n
 same_some e = cc
 
-head_further : (ts : List Terminal) (h n : ℕ) → IsHeadOf ts h n → (IsHead ts n → ⊥) → IsHeadOf ts h (suc n)
+pub head_further : (ts : List Terminal) (h n : ℕ) → IsHeadOf ts h n → (IsHead ts n → ⊥) → IsHeadOf ts h (suc n)
 head_further ts h n a b = record { head = a.head; before = omega (arith, a.before); last = λ k l m i. elim (place_cases k n m) [ inl less ↦ a.last k l less i | inr same ↦ b (subst (λ j. IsHead ts j) same i) ] }
   where
     place_cases : (k n : ℕ) → k < suc n → (k < n) ⊎ (k ≡ n)
@@ -180,7 +180,7 @@ nodes_from ts xs h (suc n) a l i =
       last = λ k m p q. i.last k m (omega (arith, p)) q;
     }
 
-one_head : (ts : List Terminal) (h h' n : ℕ) → IsHeadOf ts h n → IsHeadOf ts h' n → h ≡ h'
+pub one_head : (ts : List Terminal) (h h' n : ℕ) → IsHeadOf ts h n → IsHeadOf ts h' n → h ≡ h'
 one_head ts h h' n a b = elim (order h h') [
   | inl same ↦ same
   | inr other ↦ elim other [ inl less ↦ absurd (a.last h' less b.before b.head) | inr more ↦ absurd (b.last h more a.before a.head) ]

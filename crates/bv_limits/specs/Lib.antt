@@ -3,4 +3,8 @@ pub mod Counts
 pub mod Depths
 pub mod Limits
 pub mod Counting
+pub mod Naming
+pub mod Deep
+pub mod Measuring
+pub mod Choosing
 pub mod Answers

@@ -41,11 +41,19 @@ pub data IsPlainLimit (tokens : List Token) (ts : List Terminal) (end : ℕ) : W
   -- the 1,025th goal
   goals : {at : ℕ} → at < end → IsHead ts at → Count (IsHead ts) 0 at 1024 → IsPlainLimit tokens ts end what.Goals at
 
--- Or it is met by a term that is complete and deeper than 1,000, or by the 65th variable of a goal.
+-- the 65th variable of a goal stands at this place, among the first `end` terminals
+abbrev pub IsTooMany : List Terminal → ℕ → ℕ → Type 0
+IsTooMany ts end at = (h : ℕ) × (at < end) × IsHeadOf ts h at × IsVariable ts end at × Count (IsVariable ts end) h at 64
+
+-- Or it is met by the 65th variable of a goal: these are told by counts.
+pub data IsCountedLimit (tokens : List Token) (ts : List Terminal) (end : ℕ) : What → ℕ → Type 0 where
+  plain : {w : What} {at : ℕ} → IsPlainLimit tokens ts end w at → IsCountedLimit tokens ts end w at
+  variables : {at : ℕ} → IsTooMany ts end at → IsCountedLimit tokens ts end what.Variables at
+
+-- Or by a term that is complete and deeper than 1,000.
 pub data IsLimit (tokens : List Token) (ts : List Terminal) (end : ℕ) : What → ℕ → Type 0 where
-  plain : {w : What} {at : ℕ} → IsPlainLimit tokens ts end w at → IsLimit tokens ts end w at
+  counted : {w : What} {at : ℕ} → IsCountedLimit tokens ts end w at → IsLimit tokens ts end w at
   deep : {at j : ℕ} {x : Tree} → at < end → Complete ts at x j → j ≤ end → 1000 < depth x → IsLimit tokens ts end what.Depth at
-  variables : {h at : ℕ} → at < end → IsHeadOf ts h at → IsVariable ts end at → Count (IsVariable ts end) h at 64 → IsLimit tokens ts end what.Variables at
 
 -- the order in which limits at one token are answered
 abbrev pub rank : What → ℕ
@@ -76,7 +84,17 @@ pub record IsFirstLimit (tokens : List Token) (ts : List Terminal) (w : What) (a
 abbrev pub IsWithinLimits : List Token → List Terminal → Type 0
 IsWithinLimits tokens ts = (end : ℕ) → Reaches ts end → (w : What) (at : ℕ) → IsLimit tokens ts end w at → ⊥
 
+-- the first such place, or none
+abbrev pub IsFirstTooMany : List Terminal → ℕ → Option ℕ → Type 0
+IsFirstTooMany ts end (Some at) = IsTooMany ts end at × ((k : ℕ) → IsTooMany ts end k → at ≤ k)
+IsFirstTooMany ts end None = (k : ℕ) → IsTooMany ts end k → ⊥
+
 -- the least plain limit among these terminals, or none
 abbrev pub IsFirstPlain : List Token → List Terminal → ℕ → Option Met → Type 0
 IsFirstPlain tokens ts end (Some m) = IsPlainLimit tokens ts end m.what m.at × ((w : What) (at : ℕ) → IsPlainLimit tokens ts end w at → IsBefore m.at m.what at w)
 IsFirstPlain tokens ts end None = (w : What) (at : ℕ) → IsPlainLimit tokens ts end w at → ⊥
+
+-- the least limit among these terminals that counts tell, or none
+abbrev pub IsFirstCounted : List Token → List Terminal → ℕ → Option Met → Type 0
+IsFirstCounted tokens ts end (Some m) = IsCountedLimit tokens ts end m.what m.at × ((w : What) (at : ℕ) → IsCountedLimit tokens ts end w at → IsBefore m.at m.what at w)
+IsFirstCounted tokens ts end None = (w : What) (at : ℕ) → IsCountedLimit tokens ts end w at → ⊥

@@ -1,17 +1,18 @@
 -- The terminals of a file give the pieces of its goals.
-use Rattle.std.proofs.Common.{◌≡◌, ℕ, ◌+◌, List, [], ◌∷◌, ◌++◌, length, Option, Some, None, refl, sym, ap, subst, ◌∙◌, inl, inr, append_assoc, append-nil}
+use Rattle.std.proofs.Common.{◌≡◌, ℕ, ◌+◌, ◌<◌, arith, List, [], ◌∷◌, ◌++◌, length, Option, Some, None, refl, sym, ap, subst, ◌∙◌, inl, inr, append_assoc, append-nil}
 use Rattle.std.specs.Prelude.{slice_get}
+use Rattle.std.proofs.lemmas.Option.{slice_get_within}
 use Rattle.bv_grammar.specs.declared.words.Word.TheVariants as words
 use Rattle.bv_grammar.specs.declared.words.Terminal.{Terminal}
 use Rattle.bv_grammar.specs.declared.words.Role.{Role}
 use Rattle.bv_grammar.specs.declared.words.Role.TheVariants as roles
 use Rattle.bv_grammar.specs.declared.reading.Taken.{Taken}
-use Rattle.bv_grammar.specs.Grammar.{Symbol, terminal, word, finish, items, path, dotted, paths, part, binders, names, brace_names, bound, sort, proof, intro, separator, tactic, term, file}
+use Rattle.bv_grammar.specs.Grammar.{terminal_of, Symbol, terminal, word, finish, items, path, dotted, paths, part, binders, names, brace_names, bound, sort, proof, intro, separator, tactic, term, file}
 use Rattle.bv_grammar.specs.Grammar as g
 use Rattle.bv_grammar.specs.Derivation.{Derives, here}
 use Rattle.bv_grammar.specs.declared.reading.End.{End}
 use Rattle.bv_grammar.specs.declared.reading.End.TheVariants as ends
-use Rattle.bv_grammar.specs.Taking.{AreTaken, EndsAt}
+use Rattle.bv_grammar.specs.Taking.{IsTakenAs, AreTaken, EndsAt}
 use Rattle.bv_grammar.proofs.Derivations.{follow}
 use Rattle.bv_trees.specs.declared.pieces.Sort.{Sort}
 use Rattle.bv_trees.specs.declared.pieces.Piece.{Piece}
@@ -28,7 +29,7 @@ use Rattle.bv_trees.proofs.Unique.{term_is_no_sort}
 use Rattle.bv_trees.proofs.Derived.{by_sort, by_term, by_path, by_paths, by_part, by_names, by_brace_names, by_bound, by_binders, by_intros, by_the_rest}
 use Rattle.bv_trees.proofs.Whole.{has_goals}
 use Rattle.bv_trees.proofs.Settling.{st, left_quiet}
-use Rattle.bv_trees.proofs.OfTerms.{Whole, takes, on, past, taken_as, on_complete, not_there, sort_run, sort_told, term_run}
+use Rattle.bv_trees.proofs.OfTerms.{AllTaken, takes, on, past, taken_as, on_complete, not_there, sort_run, sort_told, term_run}
 
 -- the piece of the goal whose head this is and whose name ends there
 abbrev heads : Option ℕ → ℕ → List Piece
@@ -59,31 +60,31 @@ closed : {xs : List Taken} {gl : Option ℕ} {ps : List Piece} {i : ℕ} (j : �
 closed {gl = gl} {ps = ps} j q = ap (λ w. head_ends j (st [] None gl q.names w)) q.gives ∙ ends_head gl j q.names ps
 
 -- a path
-part_run : {ts : List Terminal} {xs : List Taken} {i : ℕ} {a : List Symbol} {c : Building} → Whole ts xs → PartAt ts i → Derives ts file 0 (part ∷ a) i → run xs i ≡ c → run xs (i + 1) ≡ c
+part_run : {ts : List Terminal} {xs : List Taken} {i : ℕ} {a : List Symbol} {c : Building} → AllTaken ts xs → PartAt ts i → Derives ts file 0 (part ∷ a) i → run xs i ≡ c → run xs (i + 1) ≡ c
 part_run k (f.a_name e) r h = takes k (taken_as (on r g.part_name) e) h
 part_run k (f.a_bool e) r h = takes k (taken_as (on r g.part_bool) e) h
 part_run k (f.a_bitvec e) r h = takes k (taken_as (on r g.part_bitvec) e) h
 
-dotted_run : {ts : List Terminal} {xs : List Taken} {gl : Option ℕ} {n i j : ℕ} {a : List Symbol} {ps : List Piece} → Whole ts xs → Dotted ts i j → Derives ts file 0 (dotted ∷ a) i → run xs i ≡ st [] None gl n ps → run xs j ≡ st [] None gl n ps
+dotted_run : {ts : List Terminal} {xs : List Taken} {gl : Option ℕ} {n i j : ℕ} {a : List Symbol} {ps : List Piece} → AllTaken ts xs → Dotted ts i j → Derives ts file 0 (dotted ∷ a) i → run xs i ≡ st [] None gl n ps → run xs j ≡ st [] None gl n ps
 dotted_run k (f.no_part e) r h = h
 dotted_run k (f.a_part e p d) r h =
     let r1 = on r g.further_part in
     let r2 = past r1 e in
     dotted_run k d (follow r2 (by_part p here)) (part_run k p r2 (takes k (taken_as r1 e) h))
 
-path_run : {ts : List Terminal} {xs : List Taken} {gl : Option ℕ} {n i j : ℕ} {a : List Symbol} {ps : List Piece} → Whole ts xs → Path ts i j → Derives ts file 0 (path ∷ a) i → run xs i ≡ st [] None gl n ps → run xs j ≡ st [] None gl n ps
+path_run : {ts : List Terminal} {xs : List Taken} {gl : Option ℕ} {n i j : ℕ} {a : List Symbol} {ps : List Piece} → AllTaken ts xs → Path ts i j → Derives ts file 0 (path ∷ a) i → run xs i ≡ st [] None gl n ps → run xs j ≡ st [] None gl n ps
 path_run k (f.path p d) r h = let r1 = on r g.a_path in dotted_run k d (follow r1 (by_part p here)) (part_run k p r1 h)
 
-paths_run : {ts : List Terminal} {xs : List Taken} {gl : Option ℕ} {n i j : ℕ} {a : List Symbol} {ps : List Piece} → Whole ts xs → Paths ts i j → Derives ts file 0 (paths ∷ a) i → run xs i ≡ st [] None gl n ps → run xs j ≡ st [] None gl n ps
+paths_run : {ts : List Terminal} {xs : List Taken} {gl : Option ℕ} {n i j : ℕ} {a : List Symbol} {ps : List Piece} → AllTaken ts xs → Paths ts i j → Derives ts file 0 (paths ∷ a) i → run xs i ≡ st [] None gl n ps → run xs j ≡ st [] None gl n ps
 paths_run k (f.no_path e) r h = h
 paths_run k (f.a_path p d) r h = let r1 = on r g.further_path in paths_run k d (follow r1 (by_path p here)) (path_run k p r1 h)
 
 -- names
-names_run : {ts : List Terminal} {xs : List Taken} {i j : ℕ} {a : List Symbol} {c : Building} → Whole ts xs → Names ts i j → Derives ts file 0 (names ∷ a) i → run xs i ≡ c → run xs j ≡ c
+names_run : {ts : List Terminal} {xs : List Taken} {i j : ℕ} {a : List Symbol} {c : Building} → AllTaken ts xs → Names ts i j → Derives ts file 0 (names ∷ a) i → run xs i ≡ c → run xs j ≡ c
 names_run k (f.no_name e) r h = h
 names_run k (f.further_name e d) r h = let r1 = on r g.further_name in names_run k d (past r1 e) (takes k (taken_as r1 e) h)
 
-brace_names_run : {ts : List Terminal} {xs : List Taken} {i j : ℕ} {a : List Symbol} {c : Building} → Whole ts xs → Names ts i j → Derives ts file 0 (brace_names ∷ a) i → run xs i ≡ c → run xs j ≡ c
+brace_names_run : {ts : List Terminal} {xs : List Taken} {i j : ℕ} {a : List Symbol} {c : Building} → AllTaken ts xs → Names ts i j → Derives ts file 0 (brace_names ∷ a) i → run xs i ≡ c → run xs j ≡ c
 brace_names_run k (f.no_name e) r h = h
 brace_names_run k (f.further_name e d) r h = let r1 = on r g.further_brace_name in brace_names_run k d (past r1 e) (takes k (taken_as r1 e) h)
 
@@ -94,7 +95,7 @@ no_sort_behind i (Some (roles.Word words.Bool)) n m = absurd (n refl)
 no_sort_behind i (Some (roles.Word words.BitVec)) n m = absurd (m refl)
 no_sort_behind i (Some _) n m = refl
 
-term_behind : {ts : List Terminal} {xs : List Taken} {p j : ℕ} {x : Tree} (i : ℕ) → Whole ts xs → Term ts p (i + 1) x j → sort_behind i (role_of (slice_get xs (i + 1))) ≡ None
+term_behind : {ts : List Terminal} {xs : List Taken} {p j : ℕ} {x : Tree} (i : ℕ) → AllTaken ts xs → Term ts p (i + 1) x j → sort_behind i (role_of (slice_get xs (i + 1))) ≡ None
 term_behind {xs = xs} i k u = no_sort_behind i (role_of (slice_get xs (i + 1))) (not_there (i + 1) words.Bool k (λ e. term_is_no_sort u e (inl refl))) (not_there (i + 1) words.BitVec k (λ e. term_is_no_sort u e (inr refl)))
 
 -- the pieces of a binder
@@ -109,11 +110,11 @@ own_first (v.hypothesis x) cs = refl
 abbrev behind : List Symbol
 behind = word words.Colon ∷ term 0 ∷ word words.Assign ∷ proof ∷ items ∷ finish ∷ []
 
-sort_bound : {ts : List Terminal} {xs : List Taken} {i l : ℕ} (m : ℕ) {s : Sort} {a : List Symbol} (ps : List Piece) → Whole ts xs → SortAt ts (m + 1) s l → Derives ts file 0 (sort ∷ a) (m + 1) → run xs (m + 1) ≡ bind m (sort_behind m (role_of (slice_get xs (m + 1)))) (st [] None None i ps)
+sort_bound : {ts : List Terminal} {xs : List Taken} {i l : ℕ} (m : ℕ) {s : Sort} {a : List Symbol} (ps : List Piece) → AllTaken ts xs → SortAt ts (m + 1) s l → Derives ts file 0 (sort ∷ a) (m + 1) → run xs (m + 1) ≡ bind m (sort_behind m (role_of (slice_get xs (m + 1)))) (st [] None None i ps)
     → run xs l ≡ st [] None None i (ps ++ piece.Variables i m s ∷ [])
 sort_bound {i = i} m ps k d r h = sort_run k d r (h ∙ ap (λ q. bind m q (st [] None None i ps)) (sort_told m k d r))
 
-bound_run : {ts : List Terminal} {xs : List Taken} {i l : ℕ} (m : ℕ) {c : Binder} (ps : List Piece) → Whole ts xs → Bound ts i m (m + 1) c l → IsWord ts words.RightRound l → Derives ts file 0 (bound ∷ word words.RightRound ∷ binders ∷ behind) (m + 1)
+bound_run : {ts : List Terminal} {xs : List Taken} {i l : ℕ} (m : ℕ) {c : Binder} (ps : List Piece) → AllTaken ts xs → Bound ts i m (m + 1) c l → IsWord ts words.RightRound l → Derives ts file 0 (bound ∷ word words.RightRound ∷ binders ∷ behind) (m + 1)
     → run xs (m + 1) ≡ bind m (sort_behind m (role_of (slice_get xs (m + 1)))) (st [] None None i ps) → Quiet xs None (ps ++ own c) (l + 1)
 bound_run {i = i} m ps k (f.to_sort {s = s} d) e r h =
     let r1 = on r g.variables in
@@ -143,7 +144,7 @@ one_binder {gl = gl} {i = i} {c = c} {cs = cs} ps r = record {
   gives = r.gives ∙ ap (λ w. w ++ binder_pieces cs) (append-nil ((ps ++ heads gl i) ++ own c)) ∙ append_assoc (ps ++ heads gl i) (own c) (binder_pieces cs) ∙ ap (λ w. (ps ++ heads gl i) ++ w) (own_first c cs);
 }
 
-binders_run : {ts : List Terminal} {xs : List Taken} {i j : ℕ} {gl : Option ℕ} {cs : List Binder} (ps : List Piece) → Whole ts xs → Binders ts i cs j → Derives ts file 0 (binders ∷ behind) i → Quiet xs gl ps i → Bound_all xs gl ps i cs j
+binders_run : {ts : List Terminal} {xs : List Taken} {i j : ℕ} {gl : Option ℕ} {cs : List Binder} (ps : List Piece) → AllTaken ts xs → Binders ts i cs j → Derives ts file 0 (binders ∷ behind) i → Quiet xs gl ps i → Bound_all xs gl ps i cs j
 binders_run {xs = xs} {i = i} {gl = gl} ps k (f.no_binder e) r q = record { goal = gl; so_far = ps; quiet = q; gives = sym (append-nil (ps ++ heads gl i)) }
 binders_run {xs = xs} {i = i} {gl = gl} ps k (f.round {k = m'} {b = c} e m ns d u z bs) r q =
     let all = ps ++ heads gl i in
@@ -172,19 +173,19 @@ binders_run {xs = xs} {i = i} {gl = gl} ps k (f.brace {k = m'} {s = s} e m ns d 
     one_binder {c = v.variables (i + 1) m' s} ps (binders_run (all ++ piece.Variables (i + 1) m' s ∷ []) k bs (past r6 z) after)
 
 -- a proof
-separator_run : {ts : List Terminal} {xs : List Taken} {i j : ℕ} {a : List Symbol} {c : Building} → Whole ts xs → Separator ts i j → Derives ts file 0 (separator ∷ a) i → run xs i ≡ c → run xs j ≡ c
+separator_run : {ts : List Terminal} {xs : List Taken} {i j : ℕ} {a : List Symbol} {c : Building} → AllTaken ts xs → Separator ts i j → Derives ts file 0 (separator ∷ a) i → run xs i ≡ c → run xs j ≡ c
 separator_run k (f.no_separator e) r h = h
 separator_run k (f.a_separator e) r h = takes k (taken_as (on r g.separated) e) h
 
-intros_run : {ts : List Terminal} {xs : List Taken} {i j : ℕ} {a : List Symbol} {c : Building} → Whole ts xs → Intros ts i j → Derives ts file 0 (intro ∷ a) i → run xs i ≡ c → run xs j ≡ c
+intros_run : {ts : List Terminal} {xs : List Taken} {i j : ℕ} {a : List Symbol} {c : Building} → AllTaken ts xs → Intros ts i j → Derives ts file 0 (intro ∷ a) i → run xs i ≡ c → run xs j ≡ c
 intros_run k (f.no_intros e) r h = h
 intros_run k (f.intros e s) r h = let r1 = on r g.intros in separator_run k s (past r1 e) (takes k (taken_as r1 e) h)
 
-tactic_run : {ts : List Terminal} {xs : List Taken} {i j : ℕ} {s : Option ℕ} {a : List Symbol} {c : Building} → Whole ts xs → Tactic ts i s j → Derives ts file 0 (tactic ∷ a) i → run xs i ≡ c → run xs j ≡ put (piece.Proof s) c
+tactic_run : {ts : List Terminal} {xs : List Taken} {i j : ℕ} {s : Option ℕ} {a : List Symbol} {c : Building} → AllTaken ts xs → Tactic ts i s j → Derives ts file 0 (tactic ∷ a) i → run xs i ≡ c → run xs j ≡ put (piece.Proof s) c
 tactic_run k (f.decided e) r h = takes k (taken_as (on r g.decided) e) h
 tactic_run k (f.checked e m) r h = let r1 = on r g.checked in takes k (taken_as (past r1 e) m) (takes k (taken_as r1 e) h)
 
-proof_run : {ts : List Terminal} {xs : List Taken} {i j : ℕ} {s : Option ℕ} {a : List Symbol} {c : Building} → Whole ts xs → Proof ts i s j → Derives ts file 0 (proof ∷ a) i → run xs i ≡ c → run xs j ≡ put (piece.Proof s) c
+proof_run : {ts : List Terminal} {xs : List Taken} {i j : ℕ} {s : Option ℕ} {a : List Symbol} {c : Building} → AllTaken ts xs → Proof ts i s j → Derives ts file 0 (proof ∷ a) i → run xs i ≡ c → run xs j ≡ put (piece.Proof s) c
 proof_run k (f.by_tactic e n s) r h =
     let r1 = on r g.a_proof in
     let r2 = past r1 e in
@@ -194,7 +195,7 @@ proof_run k (f.by_tactic e n s) r h =
 goal_order : (ps h bs x p : List Piece) → (((ps ++ h) ++ bs) ++ x) ++ p ≡ ps ++ (h ++ (bs ++ (x ++ p)))
 goal_order ps h bs x p = append_assoc ((ps ++ h) ++ bs) x p ∙ append_assoc (ps ++ h) bs (x ++ p) ∙ append_assoc ps h (bs ++ (x ++ p))
 
-statement_run : {ts : List Terminal} {xs : List Taken} {h i j : ℕ} {gl : Goal} (ps : List Piece) → Whole ts xs → Statement ts h i gl j → Derives ts file 0 (binders ∷ behind) i → Quiet xs (Some h) ps i → Rests xs (ps ++ goal_pieces (gl ∷ [])) j
+statement_run : {ts : List Terminal} {xs : List Taken} {h i j : ℕ} {gl : Goal} (ps : List Piece) → AllTaken ts xs → Statement ts h i gl j → Derives ts file 0 (binders ∷ behind) i → Quiet xs (Some h) ps i → Rests xs (ps ++ goal_pieces (gl ∷ [])) j
 statement_run {h = hd} {i = i} ps k (f.statement {k = m} {bs = cs} {x = x} {s = s} bs c u e q) r h =
     let all = binders_run ps k bs r h in
     let r1 = follow r (by_binders bs here) in
@@ -219,7 +220,7 @@ rests_as e h = record { names = h.names; stands = h.stands ∙ ap (λ w. st [] N
 by_statement : {ts : List Terminal} {h i j : ℕ} {gl : Goal} → Statement ts h i gl j → Derives ts file 0 (binders ∷ behind) i → Derives ts file 0 bottom j
 by_statement (f.statement bs c u e q) r = follow r (by_binders bs (by_the_rest c u e q here))
 
-items_run : {ts : List Terminal} {xs : List Taken} {i j : ℕ} {gs : List Goal} (ps : List Piece) → Whole ts xs → Items ts i gs j → Derives ts file 0 bottom i → Rests xs ps i → Rests xs (ps ++ goal_pieces gs) j
+items_run : {ts : List Terminal} {xs : List Taken} {i j : ℕ} {gs : List Goal} (ps : List Piece) → AllTaken ts xs → Items ts i gs j → Derives ts file 0 bottom i → Rests xs ps i → Rests xs (ps ++ goal_pieces gs) j
 items_run ps k (f.no_item e) r h = rests_as (sym (append-nil ps)) h
 items_run ps k (f.import_ e p d) r h =
     let r1 = on r g.import_item in
@@ -242,9 +243,16 @@ items_run ps k (f.example_ {g = gl} {gs = gs} e s d) r h =
     let one = statement_run ps k s r2 (quiet_at (takes k (taken_as r1 e) h.stands)) in
     rests_as (append_assoc ps (goal_pieces (gl ∷ [])) (goal_pieces gs) ∙ ap (λ w. ps ++ w) (one_goal gl gs)) (items_run (ps ++ goal_pieces (gl ∷ [])) k d (by_statement s r2) one)
 
+-- of a whole file all terminals are reached
+pub all_taken : (ts : List Terminal) (xs : List Taken) → AreTaken ts xs → ((i : ℕ) (r : Role) (a : List Symbol) → IsTakenAs ts i r a → i < length xs) → AllTaken ts xs
+all_taken ts xs taken all = record { taken = taken; all = all }
+
+pub whole_reach : (ts : List Terminal) (xs : List Taken) → length xs ≡ length ts → (i : ℕ) (r : Role) (a : List Symbol) → IsTakenAs ts i r a → i < length xs
+whole_reach ts xs e i r a h = omega (arith, slice_get_within ts i (terminal_of r) h.there, e)
+
 pub put_together : (xs : List Taken) (ts : List Terminal) (gs : List Goal) → AreGoals ts gs → AreTaken ts xs → length xs ≡ length ts → (run xs (length xs)).pieces ≡ goal_pieces gs
 put_together xs ts gs h taken all =
-    let r = items_run [] (record { taken = taken; all = all }) h here (record { names = 0; stands = refl }) in
+    let r = items_run [] (all_taken ts xs taken (whole_reach ts xs all)) h here (record { names = 0; stands = refl }) in
     ap (λ n. (run xs n).pieces) all ∙ ap (λ s. s.pieces) r.stands
 
 pub whole_outline : (ts : List Terminal) (xs xs' : List Taken) (n : ℕ) (end : End) (ps : List Piece) → AreTaken ts xs → EndsAt ts n end → end ≡ ends.Whole → n ≡ length xs → xs' ≡ xs → ArePieces xs' ps → (gs : List Goal) × AreGoals ts gs × (ps ≡ goal_pieces gs)

@@ -1,7 +1,7 @@
 -- The terminals of a term give its pieces.
 use Rattle.std.proofs.Common.{◌≡◌, ℕ, suc, ◌+◌, ◌-◌, ◌<◌, ◌≤◌, ◌==◌, true, false, List, [], ◌∷◌, ◌++◌, length, Option, Some, None, refl, sym, ap, arith, ◌∙◌, append_assoc, append-nil}
 use Rattle.std.specs.Prelude.{slice_get, if◌then◌else◌}
-use Rattle.std.proofs.lemmas.Option.{slice_get_within, slice_get-get_or}
+use Rattle.std.proofs.lemmas.Option.{slice_get-get_or}
 use Rattle.bv_grammar.specs.declared.words.Word.{Word}
 use Rattle.bv_grammar.specs.declared.words.Word.TheVariants as words
 use Rattle.bv_grammar.specs.declared.words.Terminal.{Terminal}
@@ -31,23 +31,22 @@ use Rattle.bv_trees.specs.Building.{Building, method_of, piece_of, on_role, on_w
 use Rattle.bv_trees.proofs.Derived.{by_sort, by_term, by_operand, by_atom, by_literal, by_dots}
 use Rattle.bv_trees.proofs.Settling.{st, Inner, none, unwound, completed, left_bracket, inner_behind, unwound_behind}
 
--- all terminals of the file are taken so
-pub record Whole (ts : List Terminal) (xs : List Taken) : Type 0 where
+-- the terminals that are reached are taken so
+pub record AllTaken (ts : List Terminal) (xs : List Taken) : Type 0 where
   pub taken : AreTaken ts xs
-  pub all : length xs ≡ length ts
+  pub all : (i : ℕ) (r : Role) (a : List Symbol) → IsTakenAs ts i r a → i < length xs
 
 same_taken : {x : Taken} {r : Role} {w : ℕ} → x.role ≡ r → x.waiting ≡ w → x ≡ record { role = r; waiting = w }
 same_taken e f = λ k. record { role = e k; waiting = f k }
 
-pub there : {ts : List Terminal} {xs : List Taken} {i : ℕ} {r : Role} {a : List Symbol} → Whole ts xs → IsTakenAs ts i r a → slice_get xs i ≡ Some (record { role = r; waiting = waiting a })
+pub there : {ts : List Terminal} {xs : List Taken} {i : ℕ} {r : Role} {a : List Symbol} → AllTaken ts xs → IsTakenAs ts i r a → slice_get xs i ≡ Some (record { role = r; waiting = waiting a })
 there {ts} {xs} {i} {r} {a} k h =
-    let within : i < length xs = omega (arith, slice_get_within ts i (terminal_of r) h.there, k.all) in
-    let found = slice_get-get_or xs i (record { role = r; waiting = 0 }) within in
+    let found = slice_get-get_or xs i (record { role = r; waiting = 0 }) (k.all i r a h) in
     let x = k.taken i _ found in
     let same = one_role ts i _ r x.0 a x.1 h in
     found ∙ ap Some (same_taken same.0 (x.2 ∙ ap waiting same.1))
 
-pub next_role : {ts : List Terminal} {xs : List Taken} {i : ℕ} {r : Role} {a : List Symbol} → Whole ts xs → IsTakenAs ts i r a → role_of (slice_get xs i) ≡ Some r
+pub next_role : {ts : List Terminal} {xs : List Taken} {i : ℕ} {r : Role} {a : List Symbol} → AllTaken ts xs → IsTakenAs ts i r a → role_of (slice_get xs i) ≡ Some r
 next_role k h = ap role_of (there k h)
 
 run_next : (xs : List Taken) (i : ℕ) → run xs (i + 1) ≡ b.step i (slice_get xs i) (role_of (slice_get xs (i + 1))) (run xs i)
@@ -57,7 +56,7 @@ run_next xs i = ap (run xs) (plus i)
     plus n = omega arith
 
 -- a terminal is taken
-pub takes : {ts : List Terminal} {xs : List Taken} {i : ℕ} {r : Role} {a : List Symbol} {s : Building} → Whole ts xs → IsTakenAs ts i r a → run xs i ≡ s → run xs (i + 1) ≡ on_role i r (waiting a) (role_of (slice_get xs (i + 1))) s
+pub takes : {ts : List Terminal} {xs : List Taken} {i : ℕ} {r : Role} {a : List Symbol} {s : Building} → AllTaken ts xs → IsTakenAs ts i r a → run xs i ≡ s → run xs (i + 1) ≡ on_role i r (waiting a) (role_of (slice_get xs (i + 1))) s
 takes {xs = xs} {i = i} k h e = run_next xs i ∙ ap (λ x. b.step i x (role_of (slice_get xs (i + 1))) (run xs i)) (there k h) ∙ ap (on_role i _ _ (role_of (slice_get xs (i + 1)))) e
 
 pub on : {ts : List Terminal} {s : Symbol} {r a : List Symbol} {i : ℕ} → Derives ts file 0 (s ∷ a) i → Rule s r → Derives ts file 0 (r ++ a) i
@@ -99,7 +98,7 @@ under {f = f} {fs = fs} {g = g} {n = n} e a = record {
 pub rests : {xs : List Taken} {fs : List Frame} {g : Option ℕ} {n : ℕ} {ps : List Piece} {j : ℕ} (k : ℕ) → k ≡ length fs → (a : After xs fs g n ps j) → complete k (st (a.inner ++ fs) a.method g n a.so_far) ≡ st fs None g n ps
 rests {fs = fs} {g = g} {n = n} {ps = ps} k e a = completed a.inner fs a.method g n k a.so_far ps a.open_ e a.gives
 
-pub on_complete : {ts : List Terminal} {xs : List Taken} {fs : List Frame} {g : Option ℕ} {n : ℕ} {ps : List Piece} {j : ℕ} {c : List Symbol} (w : Word) → Whole ts xs → IsTakenAs ts j (roles.Word w) c → ((s : Building) → on_word j w (waiting c) (role_of (slice_get xs (j + 1))) s ≡ complete (waiting c) s)
+pub on_complete : {ts : List Terminal} {xs : List Taken} {fs : List Frame} {g : Option ℕ} {n : ℕ} {ps : List Piece} {j : ℕ} {c : List Symbol} (w : Word) → AllTaken ts xs → IsTakenAs ts j (roles.Word w) c → ((s : Building) → on_word j w (waiting c) (role_of (slice_get xs (j + 1))) s ≡ complete (waiting c) s)
     → waiting c ≡ length fs → After xs fs g n ps j → run xs (j + 1) ≡ st fs None g n ps
 on_complete w k h same e a = takes k h a.stands ∙ same _ ∙ rests _ e a
 
@@ -118,20 +117,20 @@ plain_number i None n = refl
 plain_number i (Some (roles.Word words.Hash)) n = absurd (n refl)
 plain_number i (Some _) n = refl
 
-role_there : {ts : List Terminal} {xs : List Taken} (i : ℕ) (w : Word) → Whole ts xs → (o : Option Taken) → slice_get xs i ≡ o → role_of o ≡ Some (roles.Word w) → IsWord ts w i
+role_there : {ts : List Terminal} {xs : List Taken} (i : ℕ) (w : Word) → AllTaken ts xs → (o : Option Taken) → slice_get xs i ≡ o → role_of o ≡ Some (roles.Word w) → IsWord ts w i
 role_there i w k None e f = cc
 role_there i w k (Some x) e f =
     let y = k.taken i x e in
     let same : x.role ≡ roles.Word w = cc in
     y.1.there ∙ ap (λ r. Some (terminal_of r)) same
 
-pub not_there : {ts : List Terminal} {xs : List Taken} (i : ℕ) (w : Word) → Whole ts xs → (IsWord ts w i → ⊥) → role_of (slice_get xs i) ≡ Some (roles.Word w) → ⊥
+pub not_there : {ts : List Terminal} {xs : List Taken} (i : ℕ) (w : Word) → AllTaken ts xs → (IsWord ts w i → ⊥) → role_of (slice_get xs i) ≡ Some (roles.Word w) → ⊥
 not_there {xs = xs} i w k n e = n (role_there i w k (slice_get xs i) refl e)
 
 no_word : (ts : List Terminal) (i : ℕ) (w : Word) → IsNot ts (is_word w) i → IsWord ts w i → ⊥
 no_word ts i w n e = n (terminals.Word w) e this_word
 
-literal_run : {ts : List Terminal} {xs : List Taken} {fs : List Frame} {μ gl : Option ℕ} {n i j : ℕ} {x : Tree} {a : List Symbol} {ps : List Piece} → Whole ts xs → IsAt ts terminals.Numeral i → Literal ts i (i + 1) x j → Derives ts file 0 (atom ∷ a) i → run xs i ≡ st fs μ gl n ps → run xs j ≡ st fs μ gl n (ps ++ pieces x)
+literal_run : {ts : List Terminal} {xs : List Taken} {fs : List Frame} {μ gl : Option ℕ} {n i j : ℕ} {x : Tree} {a : List Symbol} {ps : List Piece} → AllTaken ts xs → IsAt ts terminals.Numeral i → Literal ts i (i + 1) x j → Derives ts file 0 (atom ∷ a) i → run xs i ≡ st fs μ gl n ps → run xs j ≡ st fs μ gl n (ps ++ pieces x)
 literal_run {fs = fs} {μ = μ} {gl = gl} {n = n} {i = i} {ps = ps} k e (t.without_width d) r h =
     takes k (taken_as (on r g.a_numeral) e) h ∙ ap (λ p. st fs μ gl n (ps ++ p ∷ [])) (plain_number i _ (not_there (i + 1) words.Hash k (no_word _ (i + 1) words.Hash d)))
 literal_run {fs = fs} {μ = μ} {gl = gl} {n = n} {i = i} {ps = ps} k e (t.with_width d m) r h =
@@ -142,18 +141,18 @@ literal_run {fs = fs} {μ = μ} {gl = gl} {n = n} {i = i} {ps = ps} k e (t.with_
     takes k (taken_as (past (on r1 g.with_width) d) m) (takes k hash first)
 
 -- the sort of an ascription
-pub sort_run : {ts : List Terminal} {xs : List Taken} {i j : ℕ} {s : Sort} {a : List Symbol} {c : Building} → Whole ts xs → SortAt ts i s j → Derives ts file 0 (sort ∷ a) i → run xs i ≡ c → run xs j ≡ c
+pub sort_run : {ts : List Terminal} {xs : List Taken} {i j : ℕ} {s : Sort} {a : List Symbol} {c : Building} → AllTaken ts xs → SortAt ts i s j → Derives ts file 0 (sort ∷ a) i → run xs i ≡ c → run xs j ≡ c
 sort_run k (t.truths e) r h = takes k (taken_as (on r g.truth) e) h
 sort_run k (t.vectors e m) r h = takes k (taken_as (past (on r g.vector) e) m) (takes k (taken_as (on r g.vector) e) h)
 
-pub sort_told : {ts : List Terminal} {xs : List Taken} (i : ℕ) {j : ℕ} {s : Sort} {a : List Symbol} → Whole ts xs → SortAt ts (i + 1) s j → Derives ts file 0 (sort ∷ a) (i + 1) → sort_behind i (role_of (slice_get xs (i + 1))) ≡ Some s
+pub sort_told : {ts : List Terminal} {xs : List Taken} (i : ℕ) {j : ℕ} {s : Sort} {a : List Symbol} → AllTaken ts xs → SortAt ts (i + 1) s j → Derives ts file 0 (sort ∷ a) (i + 1) → sort_behind i (role_of (slice_get xs (i + 1))) ≡ Some s
 sort_told i k (t.truths e) r = ap (sort_behind i) (next_role k (taken_as (on r g.truth) e))
 sort_told i k (t.vectors e m) r =
     let two : i + 2 ≡ i + 1 + 1 = omega arith in
     ap (sort_behind i) (next_role k (taken_as (on r g.vector) e)) ∙ ap (λ q. Some (sorts.Vector q)) two
 
 -- the brackets are closed
-closing_run : {ts : List Terminal} {xs : List Taken} {fs : List Frame} {μ gl : Option ℕ} {n i j : ℕ} {x y : Tree} {a : List Symbol} (ps : List Piece) → Whole ts xs → Closing ts x i y j → Derives ts file 0 (closing ∷ a) i → waiting a ≡ length fs → terms_open a ≡ suc (length fs)
+closing_run : {ts : List Terminal} {xs : List Taken} {fs : List Frame} {μ gl : Option ℕ} {n i j : ℕ} {x y : Tree} {a : List Symbol} (ps : List Piece) → AllTaken ts xs → Closing ts x i y j → Derives ts file 0 (closing ∷ a) i → waiting a ≡ length fs → terms_open a ≡ suc (length fs)
     → After xs (frame.Bracket μ ∷ fs) gl n (ps ++ pieces x) i → run xs j ≡ st fs μ gl n (ps ++ pieces y)
 closing_run {fs = fs} {μ = μ} {gl = gl} {n = n} {x = x} ps k (t.plain e) r w o h =
     takes k (taken_as (on r g.plain_closing) e) h.stands ∙ left_bracket h.inner fs h.method μ gl n _ h.so_far (ps ++ pieces x) h.open_ w h.gives
@@ -179,7 +178,7 @@ other_is m n h = grind arith
 point_stays : (m i : ℕ) (s : Building) → m + 1 < i → point i (Some m) s ≡ s
 point_stays m i s h = ap (λ q. if q then close s else s) (other_is (m + 1) i h)
 
-dots_run : {ts : List Terminal} {xs : List Taken} {fs : List Frame} {gl : Option ℕ} {m n i j : ℕ} {x y : Tree} {a : List Symbol} (ps : List Piece) → Whole ts xs → Dots ts x i y j → Derives ts file 0 (dots ∷ a) i → m + 1 < i → run xs i ≡ st fs (Some m) gl n (ps ++ pieces x) → run xs j ≡ st fs (Some m) gl n (ps ++ pieces y)
+dots_run : {ts : List Terminal} {xs : List Taken} {fs : List Frame} {gl : Option ℕ} {m n i j : ℕ} {x y : Tree} {a : List Symbol} (ps : List Piece) → AllTaken ts xs → Dots ts x i y j → Derives ts file 0 (dots ∷ a) i → m + 1 < i → run xs i ≡ st fs (Some m) gl n (ps ++ pieces x) → run xs j ≡ st fs (Some m) gl n (ps ++ pieces y)
 dots_run ps k (t.no_dot e) r b h = h
 dots_run {fs = fs} {gl = gl} {m = m} {n = n} {i = i} {x = x} ps k (t.a_dot e d u) r b h =
     let r1 = on r g.a_dot in
@@ -209,11 +208,11 @@ one_fewer : {a n : ℕ} → a ≡ n → suc a - 1 ≡ n
 one_fewer e = omega (arith, e)
 
 mutual
-  pub term_run : {ts : List Terminal} {xs : List Taken} {fs : List Frame} {gl : Option ℕ} {p n i j : ℕ} {x : Tree} {a : List Symbol} (ps : List Piece) → Whole ts xs → Term ts p i x j → Derives ts file 0 (term p ∷ a) i → terms_open a ≡ length fs → run xs i ≡ st fs None gl n ps
+  pub term_run : {ts : List Terminal} {xs : List Taken} {fs : List Frame} {gl : Option ℕ} {p n i j : ℕ} {x : Tree} {a : List Symbol} (ps : List Piece) → AllTaken ts xs → Term ts p i x j → Derives ts file 0 (term p ∷ a) i → terms_open a ≡ length fs → run xs i ≡ st fs None gl n ps
       → After xs fs gl n (ps ++ pieces x) j
   term_run ps k (t.term o u) r w h = tail_run ps k u (follow_operand r o) w (operand_run ps k o r w h)
 
-  operand_run : {ts : List Terminal} {xs : List Taken} {fs : List Frame} {gl : Option ℕ} {p l n i j : ℕ} {x : Tree} {a : List Symbol} (ps : List Piece) → Whole ts xs → Operand ts i l x j → Derives ts file 0 (term p ∷ a) i → terms_open a ≡ length fs → run xs i ≡ st fs None gl n ps
+  operand_run : {ts : List Terminal} {xs : List Taken} {fs : List Frame} {gl : Option ℕ} {p l n i j : ℕ} {x : Tree} {a : List Symbol} (ps : List Piece) → AllTaken ts xs → Operand ts i l x j → Derives ts file 0 (term p ∷ a) i → terms_open a ≡ length fs → run xs i ≡ st fs None gl n ps
       → After xs fs gl n (ps ++ pieces x) j
   operand_run {i = i} ps k (t.prefixed {w = w} {x = x} e q u) r o h =
       let r1 = on r (g.prefix q) in
@@ -232,7 +231,7 @@ mutual
       let r1 = on (on r g.a_call) g.a_receiver in
       methods_run ps k m (follow r1 (by_atom y here)) o (atom_run ps k y r1 (one_fewer o) (ap suc o) h)
 
-  tail_run : {ts : List Terminal} {xs : List Taken} {fs : List Frame} {gl : Option ℕ} {p l n i j : ℕ} {x y : Tree} {a : List Symbol} (ps : List Piece) → Whole ts xs → Tail ts p l x i y j → Derives ts file 0 (tail p l ∷ a) i → terms_open a ≡ length fs
+  tail_run : {ts : List Terminal} {xs : List Taken} {fs : List Frame} {gl : Option ℕ} {p l n i j : ℕ} {x y : Tree} {a : List Symbol} (ps : List Piece) → AllTaken ts xs → Tail ts p l x i y j → Derives ts file 0 (tail p l ∷ a) i → terms_open a ≡ length fs
       → After xs fs gl n (ps ++ pieces x) i → After xs fs gl n (ps ++ pieces y) j
   tail_run ps k (t.stop e) r o h = h
   tail_run {fs = fs} {gl = gl} {n = n} {i = i} {x = x} ps k (t.more {w = w} {y = y} f e q u v) r o h =
@@ -241,14 +240,14 @@ mutual
       let a1 = term_run (ps ++ pieces x) k u (past r1 e) (ap suc o) b1 in
       tail_run ps k v (follow (past r1 e) (by_term u here)) o (after_as (infix_pieces ps (pieces x) (pieces y) (piece.Infix w i ∷ [])) (under refl a1))
 
-  methods_run : {ts : List Terminal} {xs : List Taken} {fs : List Frame} {gl : Option ℕ} {p n i j : ℕ} {x y : Tree} {a : List Symbol} (ps : List Piece) → Whole ts xs → Methods ts x i y j → Derives ts file 0 (methods ∷ tail p 1024 ∷ a) i → terms_open a ≡ length fs → run xs i ≡ st fs None gl n (ps ++ pieces x)
+  methods_run : {ts : List Terminal} {xs : List Taken} {fs : List Frame} {gl : Option ℕ} {p n i j : ℕ} {x y : Tree} {a : List Symbol} (ps : List Piece) → AllTaken ts xs → Methods ts x i y j → Derives ts file 0 (methods ∷ tail p 1024 ∷ a) i → terms_open a ≡ length fs → run xs i ≡ st fs None gl n (ps ++ pieces x)
       → After xs fs gl n (ps ++ pieces y) j
   methods_run ps k (t.no_method e) r o h = at_rest h
   methods_run {fs = fs} {gl = gl} {n = n} {i = i} ps k (t.a_method e d u) r o h =
       let r1 = on r g.a_method in
       arguments_run ps k u (past (past r1 e) d) o refl (takes k (taken_as (past r1 e) d) (takes k (taken_as r1 e) h))
 
-  arguments_run : {ts : List Terminal} {xs : List Taken} {fs : List Frame} {gl : Option ℕ} {p m n i j : ℕ} {x y : Tree} {a : List Symbol} (ps : List Piece) → Whole ts xs → Arguments ts x m i y j → Derives ts file 0 (more_methods ∷ tail p 1024 ∷ a) i → terms_open a ≡ length fs → m + 1 ≡ i
+  arguments_run : {ts : List Terminal} {xs : List Taken} {fs : List Frame} {gl : Option ℕ} {p m n i j : ℕ} {x y : Tree} {a : List Symbol} (ps : List Piece) → AllTaken ts xs → Arguments ts x m i y j → Derives ts file 0 (more_methods ∷ tail p 1024 ∷ a) i → terms_open a ≡ length fs → m + 1 ≡ i
       → run xs i ≡ st fs (Some m) gl n ((ps ++ pieces x) ++ piece.Call m ∷ []) → After xs fs gl n (ps ++ pieces y) j
   arguments_run {fs = fs} {gl = gl} {m = m} {n = n} {i = i} {x = x} ps k (t.further e d u) r o b h =
       let r1 = on r g.further_method in
@@ -265,7 +264,7 @@ mutual
         gives = append_assoc ((ps ++ pieces x) ++ piece.Call m ∷ []) (codes.arguments ys) (piece.Method m ∷ []) ∙ call_pieces ps (pieces x) (codes.arguments ys) (piece.Call m ∷ []) (piece.Method m ∷ []);
       }
 
-  atoms_run : {ts : List Terminal} {xs : List Taken} {fs : List Frame} {gl : Option ℕ} {p m n i j : ℕ} {ys : Trees} {a : List Symbol} (ps : List Piece) → Whole ts xs → Atoms ts i ys j → Derives ts file 0 (arguments ∷ tail p 1024 ∷ a) i → terms_open a ≡ length fs → m + 1 ≤ i → run xs i ≡ st fs (Some m) gl n ps
+  atoms_run : {ts : List Terminal} {xs : List Taken} {fs : List Frame} {gl : Option ℕ} {p m n i j : ℕ} {ys : Trees} {a : List Symbol} (ps : List Piece) → AllTaken ts xs → Atoms ts i ys j → Derives ts file 0 (arguments ∷ tail p 1024 ∷ a) i → terms_open a ≡ length fs → m + 1 ≤ i → run xs i ≡ st fs (Some m) gl n ps
       → run xs j ≡ st fs (Some m) gl n (ps ++ codes.arguments ys)
   atoms_run {fs = fs} {gl = gl} {m = m} {n = n} ps k (t.no_atom e) r o b h = h ∙ ap (λ q. st fs (Some m) gl n q) (sym (append-nil ps))
   atoms_run {fs = fs} {gl = gl} {m = m} {n = n} ps k (t.an_atom {y = y} {xs = ys} x d u) r o b h =
@@ -276,7 +275,7 @@ mutual
       let r3 = follow r2 (by_dots d here) in
       atoms_run (ps ++ pieces y) k u r3 o (omega (arith, b, atom_grows x, grows (by_dots d (here {a = []})))) h2 ∙ ap (λ q. st fs (Some m) gl n q) (append_assoc ps (pieces y) (codes.arguments ys))
 
-  atom_run : {ts : List Terminal} {xs : List Taken} {fs : List Frame} {μ gl : Option ℕ} {n i j : ℕ} {x : Tree} {a : List Symbol} (ps : List Piece) → Whole ts xs → Atom ts i x j → Derives ts file 0 (atom ∷ a) i → waiting a ≡ length fs → terms_open a ≡ suc (length fs) → run xs i ≡ st fs μ gl n ps
+  atom_run : {ts : List Terminal} {xs : List Taken} {fs : List Frame} {μ gl : Option ℕ} {n i j : ℕ} {x : Tree} {a : List Symbol} (ps : List Piece) → AllTaken ts xs → Atom ts i x j → Derives ts file 0 (atom ∷ a) i → waiting a ≡ length fs → terms_open a ≡ suc (length fs) → run xs i ≡ st fs μ gl n ps
       → run xs j ≡ st fs μ gl n (ps ++ pieces x)
   atom_run ps k (t.named e) r w o h = takes k (taken_as (on r g.a_variable) e) h
   atom_run ps k (t.number e l) r w o h = literal_run k e l r h
