@@ -1,7 +1,12 @@
 pub mod Source
+pub mod Stacks
 pub mod Rows
+pub mod Arguments
 pub mod Methods
 pub mod Variables
 pub mod Readings
+pub mod Verdicts
 pub mod Goals
+pub mod Earliest
 pub mod Notes
+pub mod Judging

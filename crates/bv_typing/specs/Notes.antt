@@ -1,6 +1,6 @@
 -- What each piece of a tree tells its parts, in the order of the pieces.
 use Rattle.std.specs.Prelude.{ℕ, zero, suc, List, [], ◌∷◌, ◌++◌, Option, None}
-use Rattle.bv_trees.specs.Trees.{Tree, Trees, name, numeral, literal, prefix, infix_, method, ascribed, no_more, and}
+use Rattle.bv_trees.specs.Trees.{Tree, Trees, name, numeral, literal, prefix, infix_, method, ascribed, no_more, and, Binder, variables, hypothesis}
 use Rattle.bv_trees.specs.Trees as trees
 use Rattle.bv_typing.specs.declared.note.Note.{Note}
 use Rattle.bv_typing.specs.Variables.{sort_at}
@@ -32,3 +32,9 @@ abbrev mutual
   pub all_notes : Env → Trees → List Note
   all_notes e no_more = []
   all_notes e (and x xs) = notes e x ++ all_notes e xs
+
+-- those of the binders of a goal
+abbrev pub binder_notes : Env → List Binder → List Note
+binder_notes e [] = []
+binder_notes e (variables i j s ∷ bs) = nothing ∷ binder_notes e bs
+binder_notes e (hypothesis x ∷ bs) = notes e x ++ binder_notes e bs

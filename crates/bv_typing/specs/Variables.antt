@@ -1,6 +1,6 @@
 -- The variables of a goal. Each name keeps its place and the sort that is written, which is none where its width is 0 or above 128.
-use Rattle.std.specs.Prelude.{ℕ, ◌+◌, ◌-◌, Bool, not, ◌&&◌, ◌<◌, List, [], ◌∷◌, ◌++◌, length, Option, Some, None, is_some, nat_lt, codes, bytes_eq, map, range, if◌then◌else◌}
-use Rattle.std.specs.List.{list_any}
+use Rattle.std.specs.Prelude.{ℕ, ◌+◌, ◌-◌, Bool, not, ◌&&◌, ◌<◌, List, [], ◌∷◌, ◌++◌, length, Option, Some, None, is_some, nat_lt, codes, bytes_eq, map, if◌then◌else◌}
+use Rattle.std.specs.List.{list_any, range_with_len}
 use Rattle.bv_expr.specs.declared.ops.Sort.{Sort}
 use Rattle.bv_expr.specs.declared.ops.Sort.TheVariants.{Truth}
 use Rattle.bv_expr.specs.Sorts.{vectors}
@@ -8,6 +8,9 @@ use Rattle.bv_expr.specs.Goal.{Binders}
 use Rattle.bv_trees.specs.declared.pieces.Sort.{Sort as Written}
 use Rattle.bv_trees.specs.declared.pieces.Sort.TheVariants as written
 use Rattle.bv_trees.specs.Trees.{Binder, variables, hypothesis}
+use Rattle.bv_trees.specs.declared.pieces.Piece.{Piece}
+use Rattle.bv_trees.specs.declared.pieces.Piece.TheVariants as piece
+use Rattle.bv_typing.specs.declared.variables.Binding.{Binding}
 use Rattle.bv_typing.specs.Source.{Source, text_at, number_at}
 
 -- the sort that is written there
@@ -23,7 +26,7 @@ pub record Bound : Type 0 where
 
 -- n names from the place i on
 abbrev pub bounds : Source → Option Sort → ℕ → ℕ → List Bound
-bounds s sort i n = map (λ k. record { at = i + k; name = text_at s (i + k); sort = sort }) (range n)
+bounds s sort i n = map (λ k. record { at = k; name = text_at s k; sort = sort }) (range_with_len i n)
 
 abbrev pub binder_bounds : Source → Binder → List Bound
 binder_bounds s (variables i j w) = bounds s (sort_at s w) i (j - i)
@@ -56,3 +59,18 @@ sorted_binder name (Some s) = (name, s) ∷ []
 abbrev pub binders_of : List Bound → Binders
 binders_of [] = []
 binders_of (b ∷ bs) = sorted_binder b.name b.sort ++ binders_of bs
+
+-- ---- the same as places and sorts
+
+-- what is bound at a place
+abbrev pub named : Source → Binding → Bound
+named s b = record { at = b.at; name = text_at s b.at; sort = b.sort }
+
+-- n names from the place i on
+abbrev pub placed : Option Sort → ℕ → ℕ → List Binding
+placed sort i n = map (λ k. record { at = k; sort = sort }) (range_with_len i n)
+
+-- those that a piece binds
+abbrev pub piece_bindings : Source → Piece → List Binding
+piece_bindings s (piece.Variables i j w) = placed (sort_at s w) i (j - i)
+piece_bindings s _ = []

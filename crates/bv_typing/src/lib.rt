@@ -1,9 +1,20 @@
 //! Types of theorem files: which terms fit together, at which width a bare numeral is read, and what each goal states.
 #![tactic(auto)]
 
+mod item;
+mod judging;
 mod kind;
 mod method;
+mod methods;
+mod misfit;
 mod note;
+mod rows;
+mod sorts;
+mod source;
+mod telling;
+mod variables;
+mod verdicts;
 
 pub use kind::{Kind, Row};
 pub use method::{Method, Numbered};
+pub use misfit::Misfit;

@@ -1,0 +1,4 @@
+pub mod Least
+pub mod ByParts
+pub mod Judged
+pub mod Placing
