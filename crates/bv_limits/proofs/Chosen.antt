@@ -9,13 +9,13 @@ use Rattle.bv_limits.specs.declared.plain.Met.{Met}
 use Rattle.bv_limits.specs.Limits.{IsPlainLimit, IsTooMany, IsCountedLimit, plain, variables, rank, IsBefore, IsFirstPlain, IsFirstTooMany, IsFirstCounted}
 use Rattle.bv_limits.specs.Choosing.{is_before, sooner, variable}
 
-before : (a b p q : ℕ) → (nat_lt a b || (a == b && nat_le p q)) ≡ true → (a < b) ⊎ ((a ≡ b) × (p ≤ q))
+pub before : (a b p q : ℕ) → (nat_lt a b || (a == b && nat_le p q)) ≡ true → (a < b) ⊎ ((a ≡ b) × (p ≤ q))
 before a b p q e = grind arith
 
-not_before : (a b p q : ℕ) → (nat_lt a b || (a == b && nat_le p q)) ≡ false → (b < a) ⊎ ((b ≡ a) × (q ≤ p))
+pub not_before : (a b p q : ℕ) → (nat_lt a b || (a == b && nat_le p q)) ≡ false → (b < a) ⊎ ((b ≡ a) × (q ≤ p))
 not_before a b p q e = grind arith
 
-onward : (a b c p q r : ℕ) → (a < b) ⊎ ((a ≡ b) × (p ≤ q)) → (b < c) ⊎ ((b ≡ c) × (q ≤ r)) → (a < c) ⊎ ((a ≡ c) × (p ≤ r))
+pub onward : (a b c p q r : ℕ) → (a < b) ⊎ ((a ≡ b) × (p ≤ q)) → (b < c) ⊎ ((b ≡ c) × (q ≤ r)) → (a < c) ⊎ ((a ≡ c) × (p ≤ r))
 onward a b c p q r (inl h) (inl k) = inl (omega (arith, h, k))
 onward a b c p q r (inl h) (inr k) = inl (omega (arith, h, k.0))
 onward a b c p q r (inr h) (inl k) = inl (omega (arith, h.0, k))

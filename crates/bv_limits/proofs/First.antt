@@ -13,7 +13,7 @@ one_end ts m n (whole e d) (faulty f) = absurd (not_both ts n d f)
 one_end ts m n (faulty f) (whole e d) = absurd (not_both ts m d f)
 one_end ts m n (faulty f) (faulty g) = one_fault ts m n f g
 
-abbrev rank_back : ℕ → What
+abbrev pub rank_back : ℕ → What
 rank_back zero = what.Number
 rank_back (suc zero) = what.Width
 rank_back (suc (suc zero)) = what.Depth
@@ -21,7 +21,7 @@ rank_back (suc (suc (suc zero))) = what.Nodes
 rank_back (suc (suc (suc (suc zero)))) = what.Variables
 rank_back n = what.Goals
 
-rank_again : (w : What) → rank_back (rank w) ≡ w
+pub rank_again : (w : What) → rank_back (rank w) ≡ w
 rank_again what.Number = refl
 rank_again what.Width = refl
 rank_again what.Depth = refl
@@ -29,7 +29,7 @@ rank_again what.Nodes = refl
 rank_again what.Variables = refl
 rank_again what.Goals = refl
 
-both_before : (m n p q : ℕ) → (m < n) ⊎ ((m ≡ n) × (p ≤ q)) → (n < m) ⊎ ((n ≡ m) × (q ≤ p)) → (p ≡ q) × (m ≡ n)
+pub both_before : (m n p q : ℕ) → (m < n) ⊎ ((m ≡ n) × (p ≤ q)) → (n < m) ⊎ ((n ≡ m) × (q ≤ p)) → (p ≡ q) × (m ≡ n)
 both_before m n p q (inl h) (inl k) = absurd (omega (arith, h, k))
 both_before m n p q (inl h) (inr k) = absurd (omega (arith, h, k.0))
 both_before m n p q (inr h) (inl k) = absurd (omega (arith, h.0, k))

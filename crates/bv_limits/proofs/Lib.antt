@@ -5,3 +5,4 @@ pub mod Tested
 pub mod Named
 pub mod Measured
 pub mod Chosen
+pub mod Sooner

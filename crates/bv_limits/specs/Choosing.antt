@@ -15,3 +15,7 @@ sooner (Some m) (Some n) = if is_before m n then Some m else Some n
 abbrev pub variable : Option ℕ → Option Met
 variable None = None
 variable (Some at) = Some (record { what = what.Variables; at = at })
+
+abbrev pub depth : Option ℕ → Option Met
+depth None = None
+depth (Some at) = Some (record { what = what.Depth; at = at })

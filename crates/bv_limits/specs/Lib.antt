@@ -8,3 +8,4 @@ pub mod Deep
 pub mod Measuring
 pub mod Choosing
 pub mod Answers
+pub mod Files

@@ -1,5 +1,6 @@
 -- Files have one answer, by the laws of the steps that lead to it.
-use Rattle.std.specs.Prelude.{◌≡◌, refl, sym, ap, subst, ◌∙◌, ℕ, List, [], ◌∷◌, length, Option, Some, None, map, slice_get}
+use Rattle.std.proofs.Common.{◌≡◌, refl, sym, ap, subst, ◌∙◌, ℕ, List, [], Option, Some, None, map}
+use Rattle.std.specs.Prelude.{slice_get}
 use Rattle.bv_lex.specs.declared.token.Token.{Token}
 use Rattle.bv_lex.specs.declared.fault.Fault.{Fault}
 use Rattle.bv_lex.specs.declared.fault.What.{What}
@@ -10,18 +11,20 @@ use Rattle.bv_grammar.specs.declared.words.Terminal.{Terminal}
 use Rattle.bv_grammar.specs.Derivation.{IsFile, IsSyntaxFault}
 use Rattle.bv_grammar.specs.Laws as grammar
 use Rattle.bv_trees.specs.Trees.{Goal}
-use Rattle.bv_trees.specs.Files.{AreGoals}
 use Rattle.bv_trees.specs.Laws as trees
-use Rattle.bv_limits.specs.Limits.{IsFirstLimit, IsWithinLimits}
+use Rattle.bv_limits.specs.declared.plain.Met.{Met}
+use Rattle.bv_limits.specs.Limits.{IsCountedLimit}
+use Rattle.bv_limits.specs.Files.{IsLeast, IsMetIn}
+use Rattle.bv_limits.proofs.Sooner.{one_least}
 use Rattle.bv_expr.specs.Statement.{Statement}
-use Rattle.bv_typing.specs.Goals.{States, Misfit, file_misfits, least, statement}
-use Rattle.bv_parse.specs.Reads.{terminals_of, place_of, Outlines, ReadsAs, IsFaultOf, of_tokens, of_limits, of_syntax, of_types}
+use Rattle.bv_typing.specs.declared.misfit.Misfit.{Misfit}
+use Rattle.bv_typing.specs.Goals.{States, file_misfits, least, statement}
+use Rattle.bv_parse.specs.Reads.{terminals_of, place_of, Outlines, IsWithinLimits, ReadsAs, limit_at, IsFaultOf, of_tokens, of_limits, of_counts, of_syntax, of_types}
 use Rattle.bv_parse.specs.Laws as laws
 
 -- the laws of the steps
 pub record Steps : Type 0 where
   pub cut : (bytes : List ℕ) → OneCut bytes
-  pub limit : (tokens : List Token) (ts : List Terminal) (w w' : What) (at at' : ℕ) → IsFirstLimit tokens ts w at → IsFirstLimit tokens ts w' at' → (w ≡ w') × (at ≡ at')
   pub not_both : (ts : List Terminal) (at : ℕ) → grammar.NotBoth ts at
   pub one_fault : (ts : List Terminal) (at at' : ℕ) → grammar.OneFault ts at at'
   pub whole : (ts : List Terminal) (gs : List Goal) → trees.IsWhole ts gs
@@ -30,87 +33,129 @@ pub record Steps : Type 0 where
 same_tokens : (s : Steps) (bytes : List ℕ) (ts us : List Token) → AreTokens bytes ts → AreTokens bytes us → ts ≡ us
 same_tokens s bytes ts us a b = (s.cut bytes ts us None None a b).0
 
-no_fault : (s : Steps) (bytes : List ℕ) (ts : List Token) (f : Fault) → AreTokens bytes ts → IsTokenFault bytes f → ⊥
-no_fault s bytes ts f a (us, b) = none_is_some f ((s.cut bytes ts us None (Some f) a b).1)
-  where
-    none_is_some : (f : Fault) → None ≡ Some f → ⊥
-    none_is_some f ()
-
-no_limit : (tokens : List Token) (ts : List Terminal) (w : What) (at : ℕ) → IsWithinLimits tokens ts → IsFirstLimit tokens ts w at → ⊥
-no_limit tokens ts w at within first = within first.end first.reaches w at first.limit
-
-same_trees : (s : Steps) (bytes : List ℕ) (tokens : List Token) (gs hs : List Goal) → Outlines bytes tokens gs → Outlines bytes tokens hs → gs ≡ hs
-same_trees s bytes tokens gs hs a b = s.one (terminals_of bytes tokens) gs hs a.goals b.goals
-
-pub one_reading : (s : Steps) (bytes : List ℕ) (gs hs : List Statement) → laws.OneReading bytes gs hs
-one_reading s bytes gs hs a b = go a.tokens b.tokens a.trees b.trees (same_tokens s bytes a.tokens b.tokens a.outlines.cut b.outlines.cut) a.outlines b.outlines a.states b.states
-  where
-    go : (ts us : List Token) (xs ys : List Goal) → ts ≡ us → Outlines bytes ts xs → Outlines bytes us ys
-        → States (record { bytes = bytes; tokens = ts }) xs gs → States (record { bytes = bytes; tokens = us }) ys hs → gs ≡ hs
-    go ts ts xs ys refl p q u v = u.are ∙ (ap (λ zs. map (statement (record { bytes = bytes; tokens = ts })) zs) (same_trees s bytes ts xs ys p q) ∙ sym v.are)
-
-is_file : (s : Steps) (bytes : List ℕ) (tokens : List Token) (gs : List Goal) → Outlines bytes tokens gs → IsFile (terminals_of bytes tokens)
-is_file s bytes tokens gs o = s.whole (terminals_of bytes tokens) gs o.goals
-
-no_syntax : (s : Steps) (bytes : List ℕ) (tokens : List Token) (gs : List Goal) (at : ℕ) → Outlines bytes tokens gs → IsSyntaxFault (terminals_of bytes tokens) at → ⊥
-no_syntax s bytes tokens gs at o f = s.not_both (terminals_of bytes tokens) at (is_file s bytes tokens gs o) f
-
-least_none : (m : Misfit) (ms : List Misfit) → ms ≡ [] → least ms ≡ Some m → ⊥
-least_none m [] refl ()
-
-pub not_both : (s : Steps) (bytes : List ℕ) (gs : List Statement) (f : Fault) → laws.NotBoth bytes gs f
-not_both s bytes gs f a (of_tokens t) = no_fault s bytes a.tokens f a.outlines.cut t
-not_both s bytes gs f a (of_limits {tokens} {w} {at} cut first) =
-    no_limit tokens (terminals_of bytes tokens) w at
-      (subst (λ ts. IsWithinLimits ts (terminals_of bytes ts)) (same_tokens s bytes a.tokens tokens a.outlines.cut cut) a.outlines.within) first
-not_both s bytes gs f a (of_syntax {tokens} {at} cut within fault) =
-    no_syntax s bytes tokens a.trees at (subst (λ ts. Outlines bytes ts a.trees) (same_tokens s bytes a.tokens tokens a.outlines.cut cut) a.outlines) fault
-not_both s bytes gs f a (of_types {tokens} {ts} {m} o l) = go a.tokens a.trees a.outlines a.states (same_tokens s bytes a.tokens tokens a.outlines.cut o.cut)
-  where
-    go : (us : List Token) (xs : List Goal) → Outlines bytes us xs → States (record { bytes = bytes; tokens = us }) xs gs → us ≡ tokens → ⊥
-    go us xs p st refl = least_none m (file_misfits (record { bytes = bytes; tokens = us }) ts)
-      (subst (λ zs. file_misfits (record { bytes = bytes; tokens = us }) zs ≡ []) (same_trees s bytes us xs ts p o) st.fit) l
+none_is_some : {A : Type 0} {x : A} → None ≡ Some x → ⊥
+none_is_some ()
 
 some_is : {A : Type 0} {x y : A} → Some x ≡ Some y → x ≡ y
 some_is refl = refl
 
+no_token_fault : (s : Steps) (bytes : List ℕ) (ts : List Token) (f : Fault) → AreTokens bytes ts → IsTokenFault bytes f → ⊥
+no_token_fault s bytes ts f a (us, b) = none_is_some ((s.cut bytes ts us None (Some f) a b).1)
+
+same_trees : (s : Steps) (bytes : List ℕ) (tokens : List Token) (gs hs : List Goal) → Outlines bytes tokens gs → Outlines bytes tokens hs → gs ≡ hs
+same_trees s bytes tokens gs hs a b = s.one (terminals_of bytes tokens) gs hs a.goals b.goals
+
+no_syntax : (s : Steps) (bytes : List ℕ) (ts us : List Token) (gs : List Goal) (at : ℕ) → Outlines bytes ts gs → AreTokens bytes us → IsSyntaxFault (terminals_of bytes us) at → ⊥
+no_syntax s bytes ts us gs at o c f =
+    s.not_both (terminals_of bytes us) at (subst (λ xs. IsFile (terminals_of bytes xs)) (same_tokens s bytes ts us o.cut c) (s.whole (terminals_of bytes ts) gs o.goals)) f
+
+least_none : (m : Misfit) (ms : List Misfit) → ms ≡ [] → least ms ≡ Some m → ⊥
+least_none m ms e l = none_is_some (sym (ap least e) ∙ l)
+
+-- two whole readings of a file are one
+data Same (bytes : List ℕ) (ts us : List Token) (gs hs : List Goal) : Type 0 where
+  same : ts ≡ us → gs ≡ hs → Same bytes ts us gs hs
+
+one_outline : (s : Steps) (bytes : List ℕ) (ts us : List Token) (gs hs : List Goal) → Outlines bytes ts gs → Outlines bytes us hs → Same bytes ts us gs hs
+one_outline s bytes ts us gs hs o p = go ts us (same_tokens s bytes ts us o.cut p.cut) o p
+  where
+    go : (ts us : List Token) → ts ≡ us → Outlines bytes ts gs → Outlines bytes us hs → Same bytes ts us gs hs
+    go ts ts refl o p = same refl (same_trees s bytes ts gs hs o p)
+
+pub one_reading : (s : Steps) (bytes : List ℕ) (gs hs : List Statement) → laws.OneReading bytes gs hs
+one_reading s bytes gs hs a b = go a.tokens b.tokens a.trees b.trees (one_outline s bytes a.tokens b.tokens a.trees b.trees a.outlines b.outlines) a.states b.states
+  where
+    go : (ts us : List Token) (xs ys : List Goal) → Same bytes ts us xs ys → States (record { bytes = bytes; tokens = ts }) xs gs → States (record { bytes = bytes; tokens = us }) ys hs → gs ≡ hs
+    go ts ts xs xs (same refl refl) u v = u.are ∙ sym v.are
+
+limit_of_none : (p : What → ℕ → Type 0) (m : Met) → IsLeast p None → IsLeast p (Some m) → ⊥
+limit_of_none p m n f = n m.what m.at f.0
+
+met : (bytes : List ℕ) (ts : List Token) (gs : List Goal) → What → ℕ → Type 0
+met bytes ts gs = IsMetIn ts (terminals_of bytes ts) gs
+
+counted : (bytes : List ℕ) (ts : List Token) (end : ℕ) → What → ℕ → Type 0
+counted bytes ts end = IsCountedLimit ts (terminals_of bytes ts) end
+
+pub not_both : (s : Steps) (bytes : List ℕ) (gs : List Statement) (f : Fault) → laws.NotBoth bytes gs f
+not_both s bytes gs f a (of_tokens t) = no_token_fault s bytes a.tokens f a.outlines.cut t
+not_both s bytes gs f a (of_limits {ts} {xs} {m} o l) = go a.tokens a.trees (one_outline s bytes a.tokens ts a.trees xs a.outlines o) a.within
+  where
+    go : (us : List Token) (ys : List Goal) → Same bytes us ts ys xs → IsWithinLimits bytes us ys → ⊥
+    go us ys (same refl refl) w = limit_of_none (met bytes ts xs) m w l
+not_both s bytes gs f a (of_counts {ts} {end} c e l) = no_syntax s bytes a.tokens ts a.trees end a.outlines c e
+not_both s bytes gs f a (of_syntax {ts} {end} c e l) = no_syntax s bytes a.tokens ts a.trees end a.outlines c e
+not_both s bytes gs f a (of_types {ts} {xs} {m} o w l) = go a.tokens a.trees (one_outline s bytes a.tokens ts a.trees xs a.outlines o) a.states
+  where
+    go : (us : List Token) (ys : List Goal) → Same bytes us ts ys xs → States (record { bytes = bytes; tokens = us }) ys gs → ⊥
+    go us ys (same refl refl) st = least_none m (file_misfits (record { bytes = bytes; tokens = ts }) xs) st.fit l
+
+short_fault : List ℕ → List Token → ℕ → Option Met → Fault
+short_fault bytes ts end None = record { kind = kind.Syntax; place = place_of bytes (slice_get ts end) }
+short_fault bytes ts end (Some m) = limit_at bytes ts m
+
+misfit_at : List ℕ → List Token → Misfit → Fault
+misfit_at bytes ts m = record { kind = m.kind; place = place_of bytes (slice_get ts m.at) }
+
+WholeFault : List ℕ → List Token → List Goal → Option Met → Fault → Type 0
+WholeFault bytes ts gs (Some m) f = f ≡ limit_at bytes ts m
+WholeFault bytes ts gs None f = (m : Misfit) × (least (file_misfits (record { bytes = bytes; tokens = ts }) gs) ≡ Some m) × (f ≡ misfit_at bytes ts m)
+
+-- a fault by how the file ends
+data Kind (bytes : List ℕ) (f : Fault) : Type 0 where
+  in_tokens : IsTokenFault bytes f → Kind bytes f
+  in_short : (ts : List Token) (end : ℕ) → AreTokens bytes ts → IsSyntaxFault (terminals_of bytes ts) end → (o : Option Met) → IsLeast (counted bytes ts end) o
+      → f ≡ short_fault bytes ts end o → Kind bytes f
+  in_whole : (ts : List Token) (gs : List Goal) → Outlines bytes ts gs → (o : Option Met) → IsLeast (met bytes ts gs) o → WholeFault bytes ts gs o f → Kind bytes f
+
+kind_of : (bytes : List ℕ) (f : Fault) → IsFaultOf bytes f → Kind bytes f
+kind_of bytes f (of_tokens t) = in_tokens t
+kind_of bytes f (of_limits {ts} {gs} {m} o l) = in_whole ts gs o (Some m) l refl
+kind_of bytes f (of_counts {ts} {end} {m} c e l) = in_short ts end c e (Some m) l refl
+kind_of bytes f (of_syntax {ts} {end} c e l) = in_short ts end c e None l refl
+kind_of bytes f (of_types {ts} {gs} {m} o w l) = in_whole ts gs o None w (m, (l, refl))
+
+one_limit : (p : What → ℕ → Type 0) (o q : Option Met) → IsLeast p o → IsLeast p q → o ≡ q
+one_limit p None None f g = refl
+one_limit p None (Some n) f g = absurd (limit_of_none p n f g)
+one_limit p (Some m) None f g = absurd (limit_of_none p m g f)
+one_limit p (Some m) (Some n) f g = ap Some (one_least p m n f g)
+
+both_short : (s : Steps) (bytes : List ℕ) (f g : Fault) (ts us : List Token) (end end' : ℕ) (o q : Option Met) → AreTokens bytes ts → AreTokens bytes us → IsSyntaxFault (terminals_of bytes ts) end
+    → IsSyntaxFault (terminals_of bytes us) end' → IsLeast (counted bytes ts end) o → IsLeast (counted bytes us end') q → f ≡ short_fault bytes ts end o → g ≡ short_fault bytes us end' q → f ≡ g
+both_short s bytes f g ts us end end' o q c d e e' l l' h h' = tokens ts us (same_tokens s bytes ts us c d) e e' l l' h h'
+  where
+    limits : (ts : List Token) (end : ℕ) → IsLeast (counted bytes ts end) o → IsLeast (counted bytes ts end) q → f ≡ short_fault bytes ts end o → g ≡ short_fault bytes ts end q → f ≡ g
+    limits ts end l l' h h' = h ∙ (ap (short_fault bytes ts end) (one_limit (counted bytes ts end) o q l l') ∙ sym h')
+    ends : (ts : List Token) (end end' : ℕ) → end ≡ end' → IsLeast (counted bytes ts end) o → IsLeast (counted bytes ts end') q → f ≡ short_fault bytes ts end o → g ≡ short_fault bytes ts end' q → f ≡ g
+    ends ts end end refl l l' h h' = limits ts end l l' h h'
+    tokens : (ts us : List Token) → ts ≡ us → IsSyntaxFault (terminals_of bytes ts) end → IsSyntaxFault (terminals_of bytes us) end' → IsLeast (counted bytes ts end) o → IsLeast (counted bytes us end') q
+        → f ≡ short_fault bytes ts end o → g ≡ short_fault bytes us end' q → f ≡ g
+    tokens ts ts refl e e' l l' h h' = ends ts end end' (s.one_fault (terminals_of bytes ts) end end' e e') l l' h h'
+
+one_whole_fault : (bytes : List ℕ) (f g : Fault) (ts : List Token) (gs : List Goal) (o : Option Met) → WholeFault bytes ts gs o f → WholeFault bytes ts gs o g → f ≡ g
+one_whole_fault bytes f g ts gs (Some m) h k = h ∙ sym k
+one_whole_fault bytes f g ts gs None (m, (l, h)) (n, (k, h')) = h ∙ (ap (misfit_at bytes ts) (some_is (sym l ∙ k)) ∙ sym h')
+
+both_whole : (s : Steps) (bytes : List ℕ) (f g : Fault) (ts us : List Token) (gs hs : List Goal) (o q : Option Met) → Outlines bytes ts gs → Outlines bytes us hs → IsLeast (met bytes ts gs) o → IsLeast (met bytes us hs) q
+    → WholeFault bytes ts gs o f → WholeFault bytes us hs q g → f ≡ g
+both_whole s bytes f g ts us gs hs o q a b l l' h h' = go ts us gs hs (one_outline s bytes ts us gs hs a b) l l' h h'
+  where
+    limits : (ts : List Token) (gs : List Goal) (o q : Option Met) → o ≡ q → WholeFault bytes ts gs o f → WholeFault bytes ts gs q g → f ≡ g
+    limits ts gs o o refl h h' = one_whole_fault bytes f g ts gs o h h'
+    go : (ts us : List Token) (gs hs : List Goal) → Same bytes ts us gs hs → IsLeast (met bytes ts gs) o → IsLeast (met bytes us hs) q → WholeFault bytes ts gs o f → WholeFault bytes us hs q g → f ≡ g
+    go ts ts gs gs (same refl refl) l l' h h' = limits ts gs o q (one_limit (met bytes ts gs) o q l l') h h'
+
+one_kind : (s : Steps) (bytes : List ℕ) (f g : Fault) → Kind bytes f → Kind bytes g → f ≡ g
+one_kind s bytes f g (in_tokens (ts, a)) (in_tokens (us, b)) = some_is ((s.cut bytes ts us (Some f) (Some g) a b).1)
+one_kind s bytes f g (in_tokens t) (in_short us end c e o l h) = absurd (no_token_fault s bytes us f c t)
+one_kind s bytes f g (in_tokens t) (in_whole us gs o q l h) = absurd (no_token_fault s bytes us f o.cut t)
+one_kind s bytes f g (in_short us end c e o l h) (in_tokens t) = absurd (no_token_fault s bytes us g c t)
+one_kind s bytes f g (in_short ts end c e o l h) (in_short us end' d e' q l' h') = both_short s bytes f g ts us end end' o q c d e e' l l' h h'
+one_kind s bytes f g (in_short us end c e o l h) (in_whole ts gs a q l' h') = absurd (no_syntax s bytes ts us gs end a c e)
+one_kind s bytes f g (in_whole us gs o q l h) (in_tokens t) = absurd (no_token_fault s bytes us g o.cut t)
+one_kind s bytes f g (in_whole ts gs a q l' h') (in_short us end c e o l h) = absurd (no_syntax s bytes ts us gs end a c e)
+one_kind s bytes f g (in_whole ts gs a o l h) (in_whole us hs b q l' h') = both_whole s bytes f g ts us gs hs o q a b l l' h h'
+
 pub one_fault : (s : Steps) (bytes : List ℕ) (f g : Fault) → laws.OneFault bytes f g
-one_fault s bytes f g (of_tokens (ts, a)) (of_tokens (us, b)) = some_is ((s.cut bytes ts us (Some f) (Some g) a b).1)
-one_fault s bytes f g (of_tokens t) (of_limits {tokens} cut first) = absurd (no_fault s bytes tokens f cut t)
-one_fault s bytes f g (of_tokens t) (of_syntax {tokens} cut within fault) = absurd (no_fault s bytes tokens f cut t)
-one_fault s bytes f g (of_tokens t) (of_types {tokens} o l) = absurd (no_fault s bytes tokens f o.cut t)
-one_fault s bytes f g (of_limits {tokens} cut first) (of_tokens t) = absurd (no_fault s bytes tokens g cut t)
-one_fault s bytes f g (of_syntax {tokens} cut within fault) (of_tokens t) = absurd (no_fault s bytes tokens g cut t)
-one_fault s bytes f g (of_types {tokens} o l) (of_tokens t) = absurd (no_fault s bytes tokens g o.cut t)
-one_fault s bytes f g (of_limits {ts} {w} {at} a first) (of_limits {us} {w'} {at'} b second) = go ts us w w' at at' (same_tokens s bytes ts us a b) first second
-  where
-    go : (ts us : List Token) (w w' : What) (at at' : ℕ) → ts ≡ us → IsFirstLimit ts (terminals_of bytes ts) w at → IsFirstLimit us (terminals_of bytes us) w' at'
-        → record { kind = kind.Limit w; place = place_of bytes (slice_get ts at) } ≡ record { kind = kind.Limit w'; place = place_of bytes (slice_get us at') }
-    go ts ts w w' at at' refl p q = same w w' at at' (s.limit ts (terminals_of bytes ts) w w' at at' p q)
-      where
-        same : (w w' : What) (at at' : ℕ) → (w ≡ w') × (at ≡ at') → record { kind = kind.Limit w; place = place_of bytes (slice_get ts at) } ≡ record { kind = kind.Limit w'; place = place_of bytes (slice_get ts at') }
-        same w w at at (refl, refl) = refl
-one_fault s bytes f g (of_limits {ts} {w} {at} a first) (of_syntax {us} b within fault) =
-    absurd (no_limit us (terminals_of bytes us) w at within (subst (λ xs. IsFirstLimit xs (terminals_of bytes xs) w at) (same_tokens s bytes ts us a b) first))
-one_fault s bytes f g (of_syntax {us} b within fault) (of_limits {ts} {w} {at} a first) =
-    absurd (no_limit us (terminals_of bytes us) w at within (subst (λ xs. IsFirstLimit xs (terminals_of bytes xs) w at) (same_tokens s bytes ts us a b) first))
-one_fault s bytes f g (of_limits {ts} {w} {at} a first) (of_types {us} o l) =
-    absurd (no_limit us (terminals_of bytes us) w at o.within (subst (λ xs. IsFirstLimit xs (terminals_of bytes xs) w at) (same_tokens s bytes ts us a o.cut) first))
-one_fault s bytes f g (of_types {us} o l) (of_limits {ts} {w} {at} a first) =
-    absurd (no_limit us (terminals_of bytes us) w at o.within (subst (λ xs. IsFirstLimit xs (terminals_of bytes xs) w at) (same_tokens s bytes ts us a o.cut) first))
-one_fault s bytes f g (of_syntax {ts} {at} a within fault) (of_syntax {us} {at'} b within' fault') = go ts us at at' (same_tokens s bytes ts us a b) fault fault'
-  where
-    go : (ts us : List Token) (at at' : ℕ) → ts ≡ us → IsSyntaxFault (terminals_of bytes ts) at → IsSyntaxFault (terminals_of bytes us) at'
-        → record { kind = kind.Syntax; place = place_of bytes (slice_get ts at) } ≡ record { kind = kind.Syntax; place = place_of bytes (slice_get us at') }
-    go ts ts at at' refl p q = ap (λ i. record { kind = kind.Syntax; place = place_of bytes (slice_get ts i) }) (s.one_fault (terminals_of bytes ts) at at' p q)
-one_fault s bytes f g (of_syntax {ts} {at} a within fault) (of_types {us} {gs} o l) =
-    absurd (no_syntax s bytes us gs at o (subst (λ xs. IsSyntaxFault (terminals_of bytes xs) at) (same_tokens s bytes ts us a o.cut) fault))
-one_fault s bytes f g (of_types {us} {gs} o l) (of_syntax {ts} {at} a within fault) =
-    absurd (no_syntax s bytes us gs at o (subst (λ xs. IsSyntaxFault (terminals_of bytes xs) at) (same_tokens s bytes ts us a o.cut) fault))
-one_fault s bytes f g (of_types {ts} {gs} {m} o l) (of_types {us} {hs} {n} p k) = go ts us gs hs m n (same_tokens s bytes ts us o.cut p.cut) o p l k
-  where
-    go : (ts us : List Token) (gs hs : List Goal) (m n : Misfit) → ts ≡ us → Outlines bytes ts gs → Outlines bytes us hs
-        → least (file_misfits (record { bytes = bytes; tokens = ts }) gs) ≡ Some m → least (file_misfits (record { bytes = bytes; tokens = us }) hs) ≡ Some n
-        → record { kind = m.kind; place = place_of bytes (slice_get ts m.at) } ≡ record { kind = n.kind; place = place_of bytes (slice_get us n.at) }
-    go ts ts gs hs m n refl o p l k = ap (λ x. record { kind = x.kind; place = place_of bytes (slice_get ts x.at) })
-      (some_is (sym l ∙ (ap (λ xs. least (file_misfits (record { bytes = bytes; tokens = ts }) xs)) (same_trees s bytes ts gs hs o p) ∙ k)))
+one_fault s bytes f g a b = one_kind s bytes f g (kind_of bytes f a) (kind_of bytes g b)
