@@ -17,6 +17,7 @@ pub enum Command {
     Alone,
     Check,
     Cnf,
+    Show,
 }
 
 /// What is asked for: the command, the step budget of each goal, whether the report leaves out the lines of goals, and the files in order.
@@ -40,6 +41,8 @@ pub fn command_of(word: &str) -> Option<Command>
         Some(Command::Check)
     } else if word == "cnf" {
         Some(Command::Cnf)
+    } else if word == "show" {
+        Some(Command::Show)
     } else {
         None
     }
@@ -66,7 +69,7 @@ pub fn options_of(command: Command) -> &'static [CommandOption<'static>]
 {
     match command {
         Command::Prove | Command::Alone => &SOLVING,
-        Command::Check | Command::Cnf => &[],
+        Command::Check | Command::Cnf | Command::Show => &[],
     }
 }
 
@@ -76,8 +79,8 @@ pub fn most_files(command: Command) -> usize
     ensures few { result ≤ 64 }
 {
     match command {
-        Command::Cnf => 1,
-        _ => 64,
+        Command::Cnf | Command::Show => 1,
+        Command::Prove | Command::Alone | Command::Check => 64,
     }
 }
 
