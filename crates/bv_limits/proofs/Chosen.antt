@@ -6,7 +6,7 @@ use Rattle.bv_lex.specs.declared.fault.What.{What}
 use Rattle.bv_lex.specs.declared.fault.What.TheVariants as what
 use Rattle.bv_grammar.specs.declared.words.Terminal.{Terminal}
 use Rattle.bv_limits.specs.declared.plain.Met.{Met}
-use Rattle.bv_limits.specs.Limits.{IsPlainLimit, IsTooMany, IsCountedLimit, plain, variables, rank, IsBefore, IsFirstPlain, IsFirstTooMany, IsFirstCounted}
+use Rattle.bv_limits.specs.Limits.{IsTooMany, IsCountedLimit, plain, variables, rank, IsBefore, IsFirstPlain, IsFirstTooMany, IsFirstCounted}
 use Rattle.bv_limits.specs.Choosing.{is_before, sooner, variable}
 
 pub before : (a b p q : ℕ) → (nat_lt a b || (a == b && nat_le p q)) ≡ true → (a < b) ⊎ ((a ≡ b) × (p ≤ q))

@@ -1,5 +1,5 @@
 -- Counting the names of binders counts variables.
-use Rattle.std.proofs.Common.{◌≡◌, ℕ, zero, suc, ◌+◌, ◌-◌, ◌<◌, ◌≤◌, ◌==◌, ◌&&◌, ◌||◌, Bool, true, false, List, [], ◌∷◌, length, drop, get_or, Option, Some, None, IfSome, refl, sym, ap, subst, arith, ◌∙◌, ◌⊎◌, inl, inr}
+use Rattle.std.proofs.Common.{◌≡◌, ℕ, zero, suc, ◌+◌, ◌-◌, ◌<◌, ◌≤◌, ◌==◌, ◌&&◌, Bool, true, false, List, [], ◌∷◌, length, drop, get_or, Option, Some, None, IfSome, refl, sym, ap, subst, arith, ◌∙◌, ◌⊎◌, inl, inr}
 use Rattle.std.specs.Prelude.{slice_get, if◌then◌else◌, option_map}
 use Rattle.std.proofs.lemmas.List.{drop_more, length-drop, drop_all}
 use Rattle.std.proofs.lemmas.Option.{slice_get-get_or, slice_get_within, get_or_from_slice_get}
@@ -9,12 +9,12 @@ use Rattle.bv_grammar.specs.declared.words.Role.{Role}
 use Rattle.bv_grammar.specs.declared.words.Role.TheVariants as roles
 use Rattle.bv_grammar.specs.declared.reading.Taken.{Taken}
 use Rattle.bv_grammar.specs.Taking.{AreTaken}
-use Rattle.bv_limits.specs.Roles.{IsRole, IsHead, of_theorem, of_example, BeginsSort, of_truths, of_vectors, IsVariable, in_braces, in_brackets}
+use Rattle.bv_limits.specs.Roles.{IsRole, IsHead, BeginsSort, of_truths, of_vectors, IsVariable, in_braces, in_brackets}
 use Rattle.bv_limits.specs.Counts.{Count, none, passed}
 use Rattle.bv_limits.specs.Counts as c
 use Rattle.bv_limits.specs.Limits.{IsHeadOf, IsTooMany, IsFirstTooMany}
 use Rattle.bv_limits.specs.Counting.{is_head}
-use Rattle.bv_limits.specs.Naming.{role_of, is_brace, is_binder, is_colon, begins_sort, is_sort, names_sort, sorted, is_sorted, is_variable, is_full, counted}
+use Rattle.bv_limits.specs.Naming.{role_of, is_binder, is_colon, begins_sort, is_sort, names_sort, sorted, is_variable, is_full, counted}
 use Rattle.bv_limits.proofs.Loops.{plus_one}
 use Rattle.bv_limits.proofs.Counted.{Here, here, role_is, head_of, head_true, is_not, one_count, head_further, one_head}
 

@@ -1,4 +1,4 @@
-use Rattle.std.proofs.Common.{◌≡◌, ◌≤◌, ◌-◌, length, drop}
+use Rattle.std.proofs.Common.{◌≡◌, ◌-◌, length, drop}
 use Rattle.bv_limits.specs.Naming.{names_sort}
 use Rattle.bv_limits.proofs.variables.names_sort.Given as goal
 
