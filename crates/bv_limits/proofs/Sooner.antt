@@ -15,7 +15,7 @@ use Rattle.bv_limits.proofs.Chosen.{before, not_before, onward}
 use Rattle.bv_limits.proofs.First.{rank_back, rank_again, both_before}
 
 -- the limits of one kind and of another
-Both : (What → ℕ → Type 0) → (What → ℕ → Type 0) → (What → ℕ → Type 0) → Type 0
+abbrev Both : (What → ℕ → Type 0) → (What → ℕ → Type 0) → (What → ℕ → Type 0) → Type 0
 Both p q r = ((w : What) (k : ℕ) → p w k → r w k) × ((w : What) (k : ℕ) → q w k → r w k) × ((w : What) (k : ℕ) → r w k → p w k ⊎ q w k)
 
 of_two : (p q r : What → ℕ → Type 0) → Both p q r → (m n : Met) (b : Bool) → IsLeast p (Some m) → IsLeast q (Some n) → is_before m n ≡ b → IsLeast r (if b then Some m else Some n)
@@ -25,14 +25,14 @@ of_two p q r u m n true f g e = (u.0 m.what m.at f.0, all)
     either w k (inl h) = f.1 w k h
     either w k (inr h) = onward m.at n.at k (rank m.what) (rank n.what) (rank w) (before m.at n.at (rank m.what) (rank n.what) e) (g.1 w k h)
     all : (w : What) (k : ℕ) → r w k → IsBefore m.at m.what k w
-    all w k h = either w k (u.1.1 w k h)
-of_two p q r u m n false f g e = (u.1.0 n.what n.at g.0, all)
+    all w k h = either w k (u.2 w k h)
+of_two p q r u m n false f g e = (u.1 n.what n.at g.0, all)
   where
     either : (w : What) (k : ℕ) → p w k ⊎ q w k → IsBefore n.at n.what k w
     either w k (inl h) = onward n.at m.at k (rank n.what) (rank m.what) (rank w) (not_before m.at n.at (rank m.what) (rank n.what) e) (f.1 w k h)
     either w k (inr h) = g.1 w k h
     all : (w : What) (k : ℕ) → r w k → IsBefore n.at n.what k w
-    all w k h = either w k (u.1.1 w k h)
+    all w k h = either w k (u.2 w k h)
 
 sooner_least : (p q r : What → ℕ → Type 0) → Both p q r → (m n : Option Met) → IsLeast p m → IsLeast q n → IsLeast r (sooner m n)
 sooner_least p q r u None None f g = none
@@ -41,25 +41,25 @@ sooner_least p q r u None None f g = none
     either w k (inl h) = f w k h
     either w k (inr h) = g w k h
     none : (w : What) (k : ℕ) → r w k → ⊥
-    none w k h = either w k (u.1.1 w k h)
-sooner_least p q r u None (Some n) f g = (u.1.0 n.what n.at g.0, all)
+    none w k h = either w k (u.2 w k h)
+sooner_least p q r u None (Some n) f g = (u.1 n.what n.at g.0, all)
   where
     either : (w : What) (k : ℕ) → p w k ⊎ q w k → IsBefore n.at n.what k w
     either w k (inl h) = absurd (f w k h)
     either w k (inr h) = g.1 w k h
     all : (w : What) (k : ℕ) → r w k → IsBefore n.at n.what k w
-    all w k h = either w k (u.1.1 w k h)
+    all w k h = either w k (u.2 w k h)
 sooner_least p q r u (Some m) None f g = (u.0 m.what m.at f.0, all)
   where
     either : (w : What) (k : ℕ) → p w k ⊎ q w k → IsBefore m.at m.what k w
     either w k (inl h) = f.1 w k h
     either w k (inr h) = absurd (g w k h)
     all : (w : What) (k : ℕ) → r w k → IsBefore m.at m.what k w
-    all w k h = either w k (u.1.1 w k h)
+    all w k h = either w k (u.2 w k h)
 sooner_least p q r u (Some m) (Some n) f g = of_two p q r u m n (is_before m n) f g refl
 
 -- the depth of terms, as a kind of limit
-IsDeep : List Tree → What → ℕ → Type 0
+abbrev IsDeep : List Tree → What → ℕ → Type 0
 IsDeep xs w k = (w ≡ what.Depth) × AnyDeep xs k
 
 at_or_behind : (m n : ℕ) → m ≤ n → (m < n) ⊎ ((m ≡ n) × (2 ≤ 2))
@@ -77,7 +77,7 @@ counted_least tokens ts end None f = f
 counted_least tokens ts end (Some m) f = f
 
 both_kinds : (tokens : List Token) (ts : List Terminal) (gs : List Goal) → Both (IsCountedLimit tokens ts (length ts)) (IsDeep (terms_of gs)) (IsMetIn tokens ts gs)
-both_kinds tokens ts gs = (λ w k h. counted h, (put, split))
+both_kinds tokens ts gs = (λ w k h. counted h, put, split)
   where
     put : (w : What) (k : ℕ) → IsDeep (terms_of gs) w k → IsMetIn tokens ts gs w k
     put w k (e, h) = subst (λ v. IsMetIn tokens ts gs v k) (sym e) (deep h)

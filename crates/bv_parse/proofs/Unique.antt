@@ -71,10 +71,10 @@ one_reading s bytes gs hs a b = go a.tokens b.tokens a.trees b.trees (one_outlin
 limit_of_none : (p : What → ℕ → Type 0) (m : Met) → IsLeast p None → IsLeast p (Some m) → ⊥
 limit_of_none p m n f = n m.what m.at f.0
 
-met : (bytes : List ℕ) (ts : List Token) (gs : List Goal) → What → ℕ → Type 0
+abbrev met : (bytes : List ℕ) (ts : List Token) (gs : List Goal) → What → ℕ → Type 0
 met bytes ts gs = IsMetIn ts (terminals_of bytes ts) gs
 
-counted : (bytes : List ℕ) (ts : List Token) (end : ℕ) → What → ℕ → Type 0
+abbrev counted : (bytes : List ℕ) (ts : List Token) (end : ℕ) → What → ℕ → Type 0
 counted bytes ts end = IsCountedLimit ts (terminals_of bytes ts) end
 
 pub not_both : (s : Steps) (bytes : List ℕ) (gs : List Statement) (f : Fault) → laws.NotBoth bytes gs f
@@ -90,14 +90,14 @@ not_both s bytes gs f a (of_types {ts} {xs} {m} o w l) = go a.tokens a.trees (on
     go : (us : List Token) (ys : List Goal) → Same bytes us ts ys xs → States (record { bytes = bytes; tokens = us }) ys gs → ⊥
     go us ys (same refl refl) st = least_none m (file_misfits (record { bytes = bytes; tokens = ts }) xs) st.fit l
 
-short_fault : List ℕ → List Token → ℕ → Option Met → Fault
+abbrev short_fault : List ℕ → List Token → ℕ → Option Met → Fault
 short_fault bytes ts end None = record { kind = kind.Syntax; place = place_of bytes (slice_get ts end) }
 short_fault bytes ts end (Some m) = limit_at bytes ts m
 
-misfit_at : List ℕ → List Token → Misfit → Fault
+abbrev misfit_at : List ℕ → List Token → Misfit → Fault
 misfit_at bytes ts m = record { kind = m.kind; place = place_of bytes (slice_get ts m.at) }
 
-WholeFault : List ℕ → List Token → List Goal → Option Met → Fault → Type 0
+abbrev WholeFault : List ℕ → List Token → List Goal → Option Met → Fault → Type 0
 WholeFault bytes ts gs (Some m) f = f ≡ limit_at bytes ts m
 WholeFault bytes ts gs None f = (m : Misfit) × (least (file_misfits (record { bytes = bytes; tokens = ts }) gs) ≡ Some m) × (f ≡ misfit_at bytes ts m)
 
@@ -113,7 +113,7 @@ kind_of bytes f (of_tokens t) = in_tokens t
 kind_of bytes f (of_limits {ts} {gs} {m} o l) = in_whole ts gs o (Some m) l refl
 kind_of bytes f (of_counts {ts} {end} {m} c e l) = in_short ts end c e (Some m) l refl
 kind_of bytes f (of_syntax {ts} {end} c e l) = in_short ts end c e None l refl
-kind_of bytes f (of_types {ts} {gs} {m} o w l) = in_whole ts gs o None w (m, (l, refl))
+kind_of bytes f (of_types {ts} {gs} {m} o w l) = in_whole ts gs o None w (m, l, refl)
 
 one_limit : (p : What → ℕ → Type 0) (o q : Option Met) → IsLeast p o → IsLeast p q → o ≡ q
 one_limit p None None f g = refl
@@ -135,7 +135,7 @@ both_short s bytes f g ts us end end' o q c d e e' l l' h h' = tokens ts us (sam
 
 one_whole_fault : (bytes : List ℕ) (f g : Fault) (ts : List Token) (gs : List Goal) (o : Option Met) → WholeFault bytes ts gs o f → WholeFault bytes ts gs o g → f ≡ g
 one_whole_fault bytes f g ts gs (Some m) h k = h ∙ sym k
-one_whole_fault bytes f g ts gs None (m, (l, h)) (n, (k, h')) = h ∙ (ap (misfit_at bytes ts) (some_is (sym l ∙ k)) ∙ sym h')
+one_whole_fault bytes f g ts gs None (m, l, h) (n, k, h') = h ∙ (ap (misfit_at bytes ts) (some_is (sym l ∙ k)) ∙ sym h')
 
 both_whole : (s : Steps) (bytes : List ℕ) (f g : Fault) (ts us : List Token) (gs hs : List Goal) (o q : Option Met) → Outlines bytes ts gs → Outlines bytes us hs → IsLeast (met bytes ts gs) o → IsLeast (met bytes us hs) q
     → WholeFault bytes ts gs o f → WholeFault bytes us hs q g → f ≡ g

@@ -1,0 +1,15 @@
+use Rattle.std.proofs.Common.{◌≡◌, List, length, subst, sym}
+use Rattle.bv_grammar.specs.declared.words.Terminal.{Terminal}
+use Rattle.bv_grammar.specs.Taking.{AreTaken}
+use Rattle.bv_trees.specs.Trees.{Goal}
+use Rattle.bv_trees.specs.Codes.{goal_pieces}
+use Rattle.bv_limits.specs.Limits.{IsFirstCounted}
+use Rattle.bv_limits.specs.Deep.{Holds, terms_of}
+use Rattle.bv_limits.proofs.Sooner.{met_least}
+use Rattle.bv_limits.proofs.limits.first_limit.Goals as goal
+
+pub returns : goal.returns
+returns c = λ ts gs a e p. met_least c.args.tokens.now ts gs c.first_counted_limit-counted.result _ _ _
+    (subst (λ n. IsFirstCounted c.args.tokens.now ts n c.first_counted_limit-counted.result) e (c.first_counted_limit-counted.ensures ts a))
+    (c.in_ok-first_deep_term.ensures (terms_of gs) (subst (λ ps. Holds ps (terms_of gs)) (sym p) (c.pieces_hold_terms.ensures gs)))
+    c.depth-deep.ensures c.sooner.ensures
