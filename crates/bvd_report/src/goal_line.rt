@@ -1,128 +1,108 @@
-//! A goal's line, and the words in it. Each function appends to the report's bytes; a text of clauses is copied once.
-ghost use Rattle.std.specs.Prelude.{◌≡◌, ◌++◌, IfOk, OnOk, string_bytes};
+//! A goal's line in the report of a command.
+ghost use Rattle.std.specs.Prelude.{◌≡◌, ◌++◌, codes, decimal, OnOk};
 ghost use Rattle.bvd_words.specs.Asked.{command_shown};
-ghost use Rattle.bvd_report.specs.Report as spec;
-ghost use Rattle.bvd_report.specs.Report.{certificate_name, fault_text, refusal_text, told_text, clauses_text, goal_line};
-ghost use Rattle.lrat_replay.specs.Shown.{fault_shown};
+ghost use Rattle.bvd_report.specs.Report.{told_text, clauses_text, numbered_line, goal_line};
 ghost use Rattle.bvd_report.specs.Shown.{told_shown, line_shown};
+ghost use Rattle.bvd_report.specs.Tellable.{IsLine};
 
+use crate::outcome_line::{
+    push_counted, push_numbered_name, push_outcome, push_outcome_words, push_pair,
+};
+use crate::replay_line::{push_replay, push_replay_words};
 use crate::told::{Line, Told};
+use bv_print::print_goal;
 use bvd_words::Command;
-use lrat_judge::Cause;
-use lrat_replay::Fault;
-use std::alloc::{AllocError, Global};
-use std::io;
-use std::io::Write;
+use std::alloc::AllocError;
 
-/// The name of the certificate of the run's goal of this number, from 1.
-/// Errors: want of memory alone.
-pub fn certificate_name(alloc: Global, number: usize) -> Result<String, AllocError>
-    ensures { IfOk result (λ name. string_bytes name ≡ certificate_name number) }
+// Appends what is told of a goal in words.
+fn push_told(out: &mut Vec<u8>, line: &Line<'_>) -> Result<(), AllocError>
+    requires { IsLine line.now }
+    ensures { OnOk result (out.new.items ≡ out.old.items ++ told_text line.now.goal.now.binders (line_shown line.now).certificate (told_shown line.now.told)) }
 {
-    format!(in alloc; "goal-{number}.lrat")
-}
-
-/// Adds why a certificate is refused.
-fn push_fault(out: &mut Vec<u8>, fault: Fault) -> io::Result<()>
-    ensures { OnOk result (out.new.items ≡ out.old.items ++ fault_text (fault_shown fault)) }
-{
-    match fault {
-        Fault::Malformed => write!(out, "bad line"),
-        Fault::Because(Cause::IdInUse) => write!(out, "id in use"),
-        Fault::Because(Cause::NoClause(id)) => write!(out, "no clause {id}"),
-        Fault::Because(Cause::NotUnit(id)) => write!(out, "not unit {id}"),
-        Fault::Because(Cause::NoConflict) => write!(out, "no conflict"),
-        Fault::Because(Cause::MissingGroup(id)) => write!(out, "missing group {id}"),
-        Fault::Because(Cause::StrangeGroup(id)) => write!(out, "strange group {id}"),
+    let certificate = line.certificate.as_str();
+    match &line.told {
+        Told::Outcome(outcome) => push_outcome_words(out, line.goal, outcome, certificate),
+        Told::Replayed(end) => push_replay_words(out, certificate, end),
+        Told::AbsentCertificate => push_pair(out, "absent ", certificate),
+        Told::Clauses(_) => out.extend_from_slice(b"clauses"),
+        Told::Nothing => Ok(()),
     }
 }
 
-/// Adds that a goal is false at values.
-fn push_false(out: &mut Vec<u8>, number: usize, values: &[u8]) -> io::Result<()>
-    ensures { OnOk result (out.new.items ≡ out.old.items ++ told_text number (spec.Told.False values.now)) }
+// Appends the line of a goal that was neither searched for nor had its certificate replayed.
+fn push_other(out: &mut Vec<u8>, number: u32, line: &Line<'_>) -> Result<(), AllocError>
+    requires { IsLine line.now }
+    ensures { OnOk result (out.new.items ≡ out.old.items ++ numbered_line number (line_shown line.now)) }
 {
-    if values.is_empty() {
-        return write!(out, "false");
-    }
-    write!(out, "false ")?;
-    Ok(out.extend_from_slice(values)?)
+    push_numbered_name(out, number, line.goal)?;
+    push_told(out, line)?;
+    out.extend_from_slice(b"\n")
 }
 
-/// Adds which line of a certificate is refused, and why.
-fn push_refusal(out: &mut Vec<u8>, line: u64, fault: Fault) -> io::Result<()>
-    ensures { OnOk result (out.new.items ≡ out.old.items ++ refusal_text line (fault_shown fault)) }
+// Appends the numbered line of a goal.
+fn push_numbered(out: &mut Vec<u8>, number: u32, line: &Line<'_>) -> Result<(), AllocError>
+    requires { IsLine line.now }
+    ensures { OnOk result (out.new.items ≡ out.old.items ++ numbered_line number (line_shown line.now)) }
 {
-    write!(out, " line {line}: ")?;
-    push_fault(out, fault)
-}
-
-/// Adds that a line of a goal's certificate is refused.
-fn push_refused(out: &mut Vec<u8>, number: usize, line: u64, fault: Fault) -> io::Result<()>
-    ensures { OnOk result (out.new.items ≡ out.old.items ++ told_text number (spec.Told.Refused line (fault_shown fault))) }
-{
-    write!(out, "refused goal-{number}.lrat")?;
-    push_refusal(out, line, fault)
-}
-
-/// Adds that a goal's certificate adds no empty clause.
-fn push_no_empty_clause(out: &mut Vec<u8>, number: usize) -> io::Result<()>
-    ensures { OnOk result (out.new.items ≡ out.old.items ++ told_text number spec.Told.NoEmptyClause) }
-{
-    write!(out, "refused goal-{number}.lrat")?;
-    write!(out, ": no empty clause")
-}
-
-/// Adds what is told of the goal of a number.
-fn push_told(out: &mut Vec<u8>, number: usize, told: &Told) -> io::Result<()>
-    ensures { OnOk result (out.new.items ≡ out.old.items ++ told_text number (told_shown told.now)) }
-{
-    match told {
-        Told::Proved(_) => write!(out, "proved goal-{number}.lrat"),
-        Told::False(values) => push_false(out, number, values),
-        Told::Budget(spent) => write!(out, "budget {spent}"),
-        Told::Deep => write!(out, "deep"),
-        Told::Large => write!(out, "large"),
-        Told::OutOfMemory => write!(out, "out of memory"),
-        Told::Clauses(_) => write!(out, "clauses"),
-        Told::Accepted => write!(out, "accepted goal-{number}.lrat"),
-        Told::Refused(line, fault) => push_refused(out, number, *line, *fault),
-        Told::NoEmptyClause => push_no_empty_clause(out, number),
-        Told::AbsentCertificate => write!(out, "absent goal-{number}.lrat"),
+    let certificate = line.certificate.as_str();
+    match &line.told {
+        Told::Outcome(outcome) => push_outcome(out, number, line.goal, outcome, certificate),
+        Told::Replayed(end) => push_replay(out, number, line.goal, certificate, end),
+        Told::AbsentCertificate | Told::Clauses(_) | Told::Nothing => {
+            push_other(out, number, line)
+        }
     }
 }
 
-/// Adds what follows a goal's name in `cnf`.
-fn push_clauses(out: &mut Vec<u8>, number: usize, told: &Told) -> io::Result<()>
-    ensures { OnOk result (out.new.items ≡ out.old.items ++ clauses_text number (told_shown told.now)) }
+// Appends why a goal has no clauses.
+fn push_no_clauses(out: &mut Vec<u8>, line: &Line<'_>) -> Result<(), AllocError>
+    requires { IsLine line.now }
+    ensures { OnOk result (out.new.items ≡ out.old.items ++ (codes ": " ++ told_text line.now.goal.now.binders (line_shown line.now).certificate (told_shown line.now.told) ++ codes "\n")) }
 {
-    if let Told::Clauses(text) = told {
-        out.push(b'\n')?;
-        return Ok(out.extend_from_slice(text)?);
-    }
-    write!(out, ": ")?;
-    push_told(out, number, told)?;
-    write!(out, "\n")
+    out.extend_from_slice(b": ")?;
+    push_told(out, line)?;
+    out.extend_from_slice(b"\n")
 }
 
-/// Adds the line of the goal of a number.
+// Appends what follows a goal's name in `cnf`.
+fn push_clauses(out: &mut Vec<u8>, line: &Line<'_>) -> Result<(), AllocError>
+    requires { IsLine line.now }
+    ensures { OnOk result (out.new.items ≡ out.old.items ++ clauses_text (line_shown line.now) (told_shown line.now.told)) }
+{
+    match &line.told {
+        Told::Clauses(text) => {
+            out.extend_from_slice(b"\n")?;
+            out.extend_from_slice(text)
+        }
+        Told::Outcome(_) | Told::Replayed(_) | Told::AbsentCertificate | Told::Nothing => {
+            push_no_clauses(out, line)
+        }
+    }
+}
+
+// Appends a goal's comment and its clauses.
+fn push_formula(out: &mut Vec<u8>, number: u32, line: &Line<'_>) -> Result<(), AllocError>
+    requires { IsLine line.now }
+    ensures { OnOk result (out.new.items ≡ out.old.items ++ (codes "c " ++ decimal number ++ codes " " ++ line.now.goal.now.name ++ clauses_text (line_shown line.now) (told_shown line.now.told))) }
+{
+    push_counted(out, "c ", u128::from(number))?;
+    push_pair(out, " ", line.goal.name.as_str())?;
+    push_clauses(out, line)
+}
+
+/// Appends the line of the goal of a number.
 pub(crate) fn push_goal(
     out: &mut Vec<u8>,
     command: Command,
-    number: usize,
-    line: &Line,
-) -> io::Result<()>
+    number: u32,
+    line: &Line<'_>,
+) -> Result<(), AllocError>
+    requires { IsLine line.now }
     ensures { OnOk result (out.new.items ≡ out.old.items ++ goal_line (command_shown command) number (line_shown line.now)) }
 {
-    let name = line.name.as_str();
     match command {
-        Command::Cnf => {
-            write!(out, "c {number} {name}")?;
-            push_clauses(out, number, &line.told)
-        }
-        Command::Prove | Command::Alone | Command::Check => {
-            write!(out, "{number}. {name}: ")?;
-            push_told(out, number, &line.told)?;
-            write!(out, "\n")
-        }
+        Command::Cnf => push_formula(out, number, line),
+        Command::Show => print_goal(line.goal, out),
+        Command::Prove | Command::Alone | Command::Check => push_numbered(out, number, line),
     }
 }

@@ -1,19 +1,24 @@
 //! The report's bytes, whole: it is made before the first certificate is written, and told afterwards.
-ghost use Rattle.std.specs.Prelude.{◌≡◌, ◌++◌, ◌<◌, ◌^◌, IfOk, OnOk, length};
+ghost use Rattle.std.specs.Prelude.{◌≡◌, ◌++◌, ◌<◌, ◌^◌, IfOk, OnOk, All, length};
 ghost use Rattle.bvd_words.specs.Asked.{request_shown};
 ghost use Rattle.bvd_report.specs.Report.{all_goals, report};
 ghost use Rattle.bvd_report.specs.Shown.{parts_shown};
+ghost use Rattle.bvd_report.specs.Tellable.{IsPart};
 
 use crate::file_lines::push_files;
 use crate::summary::push_summary;
 use crate::told::Part;
 use bvd_words::Request;
 use std::alloc::{AllocError, Global};
-use std::io;
 
 /// Adds the report of a request.
-fn push_report(out: &mut Vec<u8>, request: &Request<'_>, parts: &[Part<'_>]) -> io::Result<()>
-    requires { length (all_goals (parts_shown parts.now)) < 2 ^ 63 }
+fn push_report(
+    out: &mut Vec<u8>,
+    request: &Request<'_>,
+    parts: &[Part<'_>],
+) -> Result<(), AllocError>
+    requires few { length (all_goals (parts_shown parts.now)) < 2 ^ 31 }
+    requires tellable { All IsPart parts.now }
     ensures { OnOk result (out.new.items ≡ out.old.items ++ report (request_shown request.now) (parts_shown parts.now)) }
 {
     push_files(out, request.command, request.quiet, parts)?;
@@ -23,8 +28,8 @@ fn push_report(out: &mut Vec<u8>, request: &Request<'_>, parts: &[Part<'_>]) -> 
 /// The report of a request over its files, each line ended by LF.
 ///
 /// `prove`, `alone` and `check` write a line `file PATH` before the goals of a file, a line for each goal and a last line
-/// with counts; where the request is quiet, the counts alone. `cnf` writes a comment and the clauses for each goal. A file
-/// that is absent or not in the form has its line always.
+/// with counts; where the request is quiet, the counts alone. `cnf` writes a comment and the clauses for each goal, and
+/// `show` the goal's canonical line. A file that is absent, too long or no theorem file has its line always.
 ///
 /// Errors: want of memory alone. Cost: linear in the text; a text of clauses is copied once.
 pub fn report(
@@ -32,12 +37,11 @@ pub fn report(
     request: &Request<'_>,
     parts: &[Part<'_>],
 ) -> Result<Vec<u8>, AllocError>
-    requires few { length (all_goals (parts_shown parts.now)) < 2 ^ 63 }
+    requires few { length (all_goals (parts_shown parts.now)) < 2 ^ 31 }
+    requires tellable { All IsPart parts.now }
     ensures { IfOk result (λ text. text.items ≡ report (request_shown request.now) (parts_shown parts.now)) }
 {
     let mut out = Vec::new(alloc);
-    match push_report(&mut out, request, parts) {
-        Ok(()) => Ok(out),
-        Err(_) => Err(AllocError),
-    }
+    push_report(&mut out, request, parts)?;
+    Ok(out)
 }

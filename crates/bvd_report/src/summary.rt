@@ -1,13 +1,15 @@
 //! The last line: how many goals hold, fail, or neither. A goal holds where it is proved or its certificate is accepted, so one count serves the commands that solve and the one that checks.
-ghost use Rattle.std.specs.Prelude.{◌≡◌, ◌++◌, ◌<◌, ◌^◌, OnOk, length};
+ghost use Rattle.std.specs.Prelude.{◌≡◌, ◌++◌, ◌<◌, ◌^◌, OnOk, codes, decimal, length};
 ghost use Rattle.bvd_words.specs.Asked.{command_shown};
 ghost use Rattle.bvd_report.specs.Report.{verdict_of, same_verdict, count_of, counts_line, summary, all_goals};
-ghost use Rattle.bvd_report.specs.Shown.{told_shown, lines_shown, parts_shown, verdict_shown};
+ghost use Rattle.bvd_report.specs.Shown.{reply_shown, outcome_shown, told_shown, lines_shown, parts_shown, verdict_shown};
 
+use crate::outcome_line::push_pair;
 use crate::told::{Line, Part, Told, goals_of};
+use bvd_text::push_number;
 use bvd_words::Command;
-use std::io;
-use std::io::Write;
+use goal_reply::{Outcome, Reply};
+use std::alloc::AllocError;
 
 /// How the last line counts a goal.
 #[derive(Clone, Copy, Debug, PartialEq, Eq)]
@@ -17,18 +19,35 @@ enum Verdict {
     Other,
 }
 
+/// How a goal with a reply is counted.
+fn reply_verdict(reply: &Reply) -> Verdict
+    ensures { verdict_shown result ≡ verdict_of (reply_shown reply.now) }
+{
+    match reply {
+        Reply::Proved(_) => Verdict::Holds,
+        Reply::False(_) => Verdict::Fails,
+        Reply::Budget(_) | Reply::Deep | Reply::Large | Reply::Memory => Verdict::Other,
+    }
+}
+
+/// How a goal with an outcome is counted.
+fn outcome_verdict(outcome: &Outcome) -> Verdict
+    ensures { verdict_shown result ≡ verdict_of (outcome_shown outcome.now) }
+{
+    match outcome {
+        Outcome::Replied(reply) => reply_verdict(reply),
+        Outcome::Full | Outcome::Cancelled(_) => Verdict::Other,
+    }
+}
+
 fn verdict_of(told: &Told) -> Verdict
     ensures { verdict_shown result ≡ verdict_of (told_shown told.now) }
 {
     match told {
-        Told::Proved(_) | Told::Accepted => Verdict::Holds,
-        Told::False(_) | Told::Refused(_, _) | Told::NoEmptyClause => Verdict::Fails,
-        Told::Budget(_)
-        | Told::Deep
-        | Told::Large
-        | Told::OutOfMemory
-        | Told::Clauses(_)
-        | Told::AbsentCertificate => Verdict::Other,
+        Told::Outcome(outcome) => outcome_verdict(outcome),
+        Told::Replayed(Ok(())) => Verdict::Holds,
+        Told::Replayed(Err(_)) => Verdict::Fails,
+        Told::AbsentCertificate | Told::Clauses(_) | Told::Nothing => Verdict::Other,
     }
 }
 
@@ -44,7 +63,7 @@ fn is_same(verdict: Verdict, other: Verdict) -> bool
 }
 
 /// How many goals of a file have a verdict.
-fn count_in(goals: &[Line], verdict: Verdict) -> usize
+fn count_in(goals: &[Line<'_>], verdict: Verdict) -> usize
     ensures { result ≡ count_of (verdict_shown verdict) (lines_shown goals.now) }
 {
     let mut count = 0usize;
@@ -58,7 +77,7 @@ fn count_in(goals: &[Line], verdict: Verdict) -> usize
 
 /// How many goals of the run have a verdict.
 fn count_all(parts: &[Part<'_>], verdict: Verdict) -> usize
-    requires { length (all_goals (parts_shown parts.now)) < 2 ^ 63 }
+    requires { length (all_goals (parts_shown parts.now)) < 2 ^ 31 }
     ensures { result ≡ count_of (verdict_shown verdict) (all_goals (parts_shown parts.now)) }
 {
     let mut count = 0usize;
@@ -68,17 +87,30 @@ fn count_all(parts: &[Part<'_>], verdict: Verdict) -> usize
     count
 }
 
+/// Adds a count and its word.
+fn push_count(out: &mut Vec<u8>, count: usize, word: &str) -> Result<(), AllocError>
+    ensures { OnOk result (out.new.items ≡ out.old.items ++ (decimal count ++ codes " " ++ word.now ++ codes ", ")) }
+{
+    push_number(out, count as u128)?;
+    push_pair(out, " ", word)?;
+    out.extend_from_slice(b", ")
+}
+
 /// Adds the counts, with a command's words for goals that hold and that fail.
-fn push_counts(out: &mut Vec<u8>, holds: &str, fails: &str, parts: &[Part<'_>]) -> io::Result<()>
-    requires { length (all_goals (parts_shown parts.now)) < 2 ^ 63 }
+fn push_counts(
+    out: &mut Vec<u8>,
+    holds: &str,
+    fails: &str,
+    parts: &[Part<'_>],
+) -> Result<(), AllocError>
+    requires { length (all_goals (parts_shown parts.now)) < 2 ^ 31 }
     ensures { OnOk result (out.new.items ≡ out.old.items ++ counts_line holds.now fails.now (all_goals (parts_shown parts.now))) }
 {
-    let holding = count_all(parts, Verdict::Holds);
-    let failing = count_all(parts, Verdict::Fails);
-    let other = count_all(parts, Verdict::Other);
-    write!(out, "goals: {holding} {holds}, ")?;
-    write!(out, "{failing} {fails}, ")?;
-    write!(out, "{other} other\n")
+    out.extend_from_slice(b"goals: ")?;
+    push_count(out, count_all(parts, Verdict::Holds), holds)?;
+    push_count(out, count_all(parts, Verdict::Fails), fails)?;
+    push_number(out, count_all(parts, Verdict::Other) as u128)?;
+    out.extend_from_slice(b" other\n")
 }
 
 /// Adds the last line of a command.
@@ -86,13 +118,13 @@ pub(crate) fn push_summary(
     out: &mut Vec<u8>,
     command: Command,
     parts: &[Part<'_>],
-) -> io::Result<()>
-    requires { length (all_goals (parts_shown parts.now)) < 2 ^ 63 }
+) -> Result<(), AllocError>
+    requires { length (all_goals (parts_shown parts.now)) < 2 ^ 31 }
     ensures { OnOk result (out.new.items ≡ out.old.items ++ summary (command_shown command) (all_goals (parts_shown parts.now))) }
 {
     match command {
         Command::Prove | Command::Alone => push_counts(out, "proved", "false", parts),
         Command::Check => push_counts(out, "accepted", "refused", parts),
-        Command::Cnf => Ok(()),
+        Command::Cnf | Command::Show => Ok(()),
     }
 }
