@@ -2,3 +2,4 @@ pub mod Least
 pub mod ByParts
 pub mod Judged
 pub mod Placing
+pub mod InGoals

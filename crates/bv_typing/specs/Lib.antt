@@ -10,3 +10,4 @@ pub mod Goals
 pub mod Earliest
 pub mod Notes
 pub mod Judging
+pub mod Faults

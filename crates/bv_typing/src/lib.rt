@@ -1,6 +1,7 @@
 //! Types of theorem files: which terms fit together, at which width a bare numeral is read, and what each goal states.
 #![tactic(auto)]
 
+mod faults;
 mod item;
 mod judging;
 mod kind;
@@ -18,3 +19,6 @@ mod verdicts;
 pub use kind::{Kind, Row};
 pub use method::{Method, Numbered};
 pub use misfit::Misfit;
+
+#[cfg(test)]
+mod tests;
