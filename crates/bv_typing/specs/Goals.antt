@@ -1,13 +1,14 @@
 -- What the goals of a file read as, and the one fault of their types.
-use Rattle.std.specs.Prelude.{◌≡◌, ℕ, ◌+◌, ◌-◌, ◌≤◌, nat_le, nat_eq, if◌then◌else◌, List, [], ◌∷◌, ◌++◌, length, Option, Some, None, option_map, map, flat_map, range, codes}
+use Rattle.std.specs.Prelude.{◌≡◌, ℕ, ◌+◌, ◌-◌, ◌≤◌, nat_le, nat_eq, if◌then◌else◌, List, [], ◌∷◌, ◌++◌, length, Option, Some, None, option_map, map, flat_map, codes}
+use Rattle.std.specs.List.{range_with_len}
 use Rattle.bv_lex.specs.declared.fault.What.TheVariants as what
-use Rattle.bv_lex.specs.declared.fault.FaultKind.{FaultKind}
 use Rattle.bv_lex.specs.declared.fault.FaultKind.TheVariants as fault
 use Rattle.bv_expr.specs.declared.ops.Sort.TheVariants.{Truth}
 use Rattle.bv_expr.specs.Term.{Term}
 use Rattle.bv_expr.specs.Statement.{Statement}
 use Rattle.bv_trees.specs.Trees.{Tree, Trees, name, numeral, literal, prefix, infix_, method, ascribed, no_more, and, Binder, variables, hypothesis, Goal}
 use Rattle.bv_trees.specs.Trees as trees
+use Rattle.bv_typing.specs.declared.misfit.Misfit.{Misfit}
 use Rattle.bv_typing.specs.declared.kind.Kind.{Kind}
 use Rattle.bv_typing.specs.declared.kind.Kind.TheVariants as kind
 use Rattle.bv_typing.specs.declared.kind.Row.{Row}
@@ -15,11 +16,6 @@ use Rattle.bv_typing.specs.declared.kind.Row.TheVariants as row
 use Rattle.bv_typing.specs.Source.{Source, text_at, quoted_at}
 use Rattle.bv_typing.specs.Variables.{Bound, all_bounds, may_bind, binders_of}
 use Rattle.bv_typing.specs.Readings.{Env, judged, kind_of, term}
-
--- a fault of types, and the place where it stands
-pub record Misfit : Type 0 where
-  pub at : ℕ
-  pub kind : FaultKind
 
 -- the fault of a form whose own row doesn't fit
 abbrev pub own : ℕ → Option Row → List Misfit
@@ -64,7 +60,7 @@ not_truth i (Some (kind.Sorted Truth)) = []
 not_truth i (Some _) = record { at = i; kind = fault.Typing } ∷ []
 
 abbrev pub truth_misfits : Env → Tree → List Misfit
-truth_misfits e x = misfits e x ++ not_truth (outermost x) (kind_of e x)
+truth_misfits e x = not_truth (outermost x) (kind_of e x)
 
 -- a name that may not be bound behind others
 abbrev pub bound_misfits : List Bound → List Bound → List Misfit
@@ -84,9 +80,9 @@ env_of s g = record { source = s; bounds = all_bounds s g.binders }
 abbrev pub terms_of : Goal → List Tree
 terms_of g = hypotheses g.binders ++ g.conclusion ∷ []
 
--- the faults of a goal's types: in its variables, and in its terms
+-- the faults of a goal's types: in its variables, in its terms, and where these are no truths
 abbrev pub goal_misfits : Source → Goal → List Misfit
-goal_misfits s g = bound_misfits [] (all_bounds s g.binders) ++ flat_map (truth_misfits (env_of s g)) (terms_of g)
+goal_misfits s g = bound_misfits [] (all_bounds s g.binders) ++ (flat_map (misfits (env_of s g)) (terms_of g) ++ flat_map (truth_misfits (env_of s g)) (terms_of g))
 
 -- those of all goals
 abbrev pub file_misfits : Source → List Goal → List Misfit
@@ -103,7 +99,7 @@ least (f ∷ fs) = Some (earlier f (least fs))
 
 -- the name of a goal: its path without spaces, or `example`
 abbrev pub path_text : Source → ℕ → ℕ → List ℕ
-path_text s i n = flat_map (λ k. text_at s (i + k)) (range n)
+path_text s i n = flat_map (text_at s) (range_with_len i n)
 
 abbrev pub goal_name : Source → Goal → List ℕ
 goal_name s g = if nat_eq g.path (g.head + 1) then codes "example" else path_text s (g.head + 1) (g.path - (g.head + 1))

@@ -1,7 +1,11 @@
 pub mod Source
 pub mod Rows
+pub mod Arguments
 pub mod Methods
 pub mod Variables
 pub mod Readings
 pub mod Goals
 pub mod Notes
+pub mod Stacks
+pub mod Widths
+pub mod Building

@@ -1,6 +1,6 @@
 -- What the trees of a goal read as: of which kind each is, and which term. A bare part is read at a width that stands beside
 -- it or is written behind it.
-use Rattle.std.specs.Prelude.{ℕ, ◌+◌, ◌-◌, Bool, true, false, nat_le, if◌then◌else◌, List, [], ◌∷◌, ◌++◌, Option, Some, None, option_map, option_and_then}
+use Rattle.std.specs.Prelude.{ℕ, zero, suc, ◌+◌, ◌-◌, Bool, true, false, nat_le, if◌then◌else◌, List, [], ◌∷◌, ◌++◌, Option, Some, None, option_map, option_and_then}
 use Rattle.bv_value.specs.BitVector.{BitVector, of_number}
 use Rattle.bv_grammar.specs.declared.words.Word.{Word}
 use Rattle.bv_grammar.specs.declared.words.Word.TheVariants as words
@@ -8,6 +8,7 @@ use Rattle.bv_expr.specs.declared.ops.Sort.{Sort}
 use Rattle.bv_expr.specs.declared.ops.Sort.TheVariants.{Truth, Vector}
 use Rattle.bv_expr.specs.declared.ops.Unary.{Unary}
 use Rattle.bv_expr.specs.declared.ops.Unary.TheVariants as of
+use Rattle.bv_expr.specs.declared.ops.Binary.{Binary}
 use Rattle.bv_expr.specs.declared.ops.Binary.TheVariants as on
 use Rattle.bv_expr.specs.Term.{Term, constant, variable, truth, truth_variable, unary, binary, choice, truth_choice}
 use Rattle.bv_expr.specs.Sorts.{vectors}
@@ -22,6 +23,8 @@ use Rattle.bv_typing.specs.declared.method.Method.{Method}
 use Rattle.bv_typing.specs.declared.method.Method.TheVariants as by_method
 use Rattle.bv_typing.specs.declared.method.Numbered.{Numbered}
 use Rattle.bv_typing.specs.declared.method.Numbered.TheVariants as numbered
+use Rattle.bv_typing.specs.declared.item.Item.{Item}
+use Rattle.bv_typing.specs.declared.item.Item.TheVariants.{Number, Made}
 use Rattle.bv_typing.specs.Source.{Source, text_at, number_at}
 use Rattle.bv_typing.specs.Methods.{method_of}
 use Rattle.bv_typing.specs.Rows.{sorted, prefix_row, infix_row, choice_row, ascribed_row, method_row, binary_of}
@@ -147,29 +150,34 @@ constant_term words.True = truth true
 constant_term words.TrueProposition = truth true
 constant_term _ = truth false
 
-abbrev pub prefix_term : Word → Term → Term
-prefix_term words.Complement x = unary of.Not x
-prefix_term words.Minus x = unary of.Neg x
-prefix_term _ x = unary of.TNot x
+-- the node that a prefix operator makes
+abbrev pub prefix_unary : Word → Unary
+prefix_unary words.Complement = of.Not
+prefix_unary words.Minus = of.Neg
+prefix_unary _ = of.TNot
 
-abbrev pub amount_term : Word → ℕ → Term → Term
-amount_term words.ShiftLeft n x = unary (of.ShlBy n) x
-amount_term _ n x = unary (of.LshrBy n) x
+-- the node of a shift by a number
+abbrev pub shift_unary : Word → ℕ → Unary
+shift_unary words.ShiftLeft n = of.ShlBy n
+shift_unary _ n = of.LshrBy n
 
 -- the sort of a kind; a bare term is read as a vector
 abbrev pub sort_in : Option Kind → Sort
 sort_in (Some (kind.Sorted s)) = s
 sort_in _ = Vector 0
 
+abbrev pub joined_by : Word → Option Binary → Term → Term → Term
+joined_by o (Some op) x y = negated o (if is_turned o then binary op y x else binary op x y)
+-- an operator that isn't infix makes no node
+joined_by o None x y = x
+
 abbrev pub joined : Word → Option Kind → Term → Term → Term
-joined o k x y with binary_of o (sort_in k)
-... | Some op = negated o (if is_turned o then binary op y x else binary op x y)
-... | None = x
+joined o k x y = joined_by o (binary_of o (sort_in k)) x y
 
 -- where its right part is a numeral, a shift is one by a number
 abbrev pub infix_term : Word → Option Kind → Option Kind → Term → Term → Term
-infix_term words.ShiftLeft k (Some (kind.Number n)) x y = amount_term words.ShiftLeft n x
-infix_term words.ShiftRight k (Some (kind.Number n)) x y = amount_term words.ShiftRight n x
+infix_term words.ShiftLeft k (Some (kind.Number n)) x y = unary (shift_unary words.ShiftLeft n) x
+infix_term words.ShiftRight k (Some (kind.Number n)) x y = unary (shift_unary words.ShiftRight n) x
 infix_term o k l x y = joined o k x y
 
 abbrev pub choice_term : Option Kind → Term → Term → Term → Term
@@ -184,25 +192,25 @@ numbered_unary numbered.Bit n = of.Bit n
 numbered_unary numbered.SetWidth n = of.SetWidth n
 numbered_unary numbered.SignExtend n = of.SignExtend n
 
--- an argument of a method: a number, or a term
-pub data Item : Type 0 where
-  number : ℕ → Item
-  made : Term → Item
-
 abbrev pub method_term : Option Method → Term → List Item → Term
 method_term (Some by_method.Msb) x [] = unary of.Msb x
-method_term (Some (by_method.With op)) x (made y ∷ []) = binary op x y
-method_term (Some by_method.ArithmeticShift) x (made y ∷ []) = binary on.Ashr x y
-method_term (Some (by_method.By m)) x (number n ∷ []) = unary (numbered_unary m n) x
-method_term (Some by_method.Extract) x (number start ∷ number len ∷ []) = unary (of.Extract start len) x
-method_term (Some by_method.ExtractBetween) x (number high ∷ number low ∷ []) = unary (of.Extract low (high - low + 1)) x
+method_term (Some (by_method.With op)) x (Made y ∷ []) = binary op x y
+method_term (Some by_method.ArithmeticShift) x (Made y ∷ []) = binary on.Ashr x y
+method_term (Some (by_method.By m)) x (Number n ∷ []) = unary (numbered_unary m n) x
+method_term (Some by_method.Extract) x (Number start ∷ Number len ∷ []) = unary (of.Extract start len) x
+method_term (Some by_method.ExtractBetween) x (Number high ∷ Number low ∷ []) = unary (of.Extract low (high - low + 1)) x
 -- untyped
 method_term _ x items = x
 
 -- a numeral that is read at no width is a number
 abbrev pub numeral_item : ℕ → ℕ → Item
-numeral_item zero n = number n
-numeral_item (suc w) n = made (constant (of_number (suc w) n))
+numeral_item zero n = Number n
+numeral_item (suc w) n = Made (constant (of_number (suc w) n))
+
+-- the item of a tree with this term
+abbrev pub item_of : Env → ℕ → Tree → Term → Item
+item_of e w (numeral i) t = numeral_item w (number_at e.source i)
+item_of e w _ t = Made t
 
 -- the term of a tree that is read at a width, which matters where it is bare alone
 abbrev mutual
@@ -211,7 +219,7 @@ abbrev mutual
   term e w (numeral i) = constant (of_number w (number_at e.source i))
   term e w (literal i j) = constant (of_number (number_at e.source j) (number_at e.source i))
   term e w (trees.constant c i) = constant_term c
-  term e w (prefix o i x) = prefix_term o (term e w x)
+  term e w (prefix o i x) = unary (prefix_unary o) (term e w x)
   term e w (infix_ o i x y) =
       infix_term o (kind_of e x) (kind_of e y) (term e (told_or w (infix_width o (kind_of e x) (kind_of e y))) x)
         (term e (right_width o (told_or w (infix_width o (kind_of e x) (kind_of e y)))) y)
@@ -223,15 +231,7 @@ abbrev mutual
 
   pub items : Env → ℕ → Trees → List Item
   items e w no_more = []
-  items e w (and x xs) = item e w x ∷ items e w xs
+  items e w (and x xs) = item_of e w x (term e w x) ∷ items e w xs
 
-  pub item : Env → ℕ → Tree → Item
-  item e w (numeral i) = numeral_item w (number_at e.source i)
-  item e w (ascribed i x s) = made (term e w (ascribed i x s))
-  item e w (name i) = made (term e w (name i))
-  item e w (literal i j) = made (term e w (literal i j))
-  item e w (trees.constant c i) = made (term e w (trees.constant c i))
-  item e w (prefix o i x) = made (term e w (prefix o i x))
-  item e w (infix_ o i x y) = made (term e w (infix_ o i x y))
-  item e w (trees.choice i x y z) = made (term e w (trees.choice i x y z))
-  item e w (method i x xs) = made (term e w (method i x xs))
+abbrev pub item : Env → ℕ → Tree → Item
+item e w x = item_of e w x (term e w x)

@@ -1,6 +1,6 @@
 -- The variables of a goal. Each name keeps its place and the sort that is written, which is none where its width is 0 or above 128.
-use Rattle.std.specs.Prelude.{ℕ, ◌+◌, ◌-◌, Bool, not, ◌&&◌, ◌<◌, List, [], ◌∷◌, ◌++◌, length, Option, Some, None, is_some, nat_lt, codes, bytes_eq, map, range, if◌then◌else◌}
-use Rattle.std.specs.List.{list_any}
+use Rattle.std.specs.Prelude.{ℕ, ◌+◌, ◌-◌, Bool, not, ◌&&◌, ◌<◌, List, [], ◌∷◌, ◌++◌, length, Option, Some, None, is_some, nat_lt, codes, bytes_eq, map, if◌then◌else◌}
+use Rattle.std.specs.List.{list_any, range_with_len}
 use Rattle.bv_expr.specs.declared.ops.Sort.{Sort}
 use Rattle.bv_expr.specs.declared.ops.Sort.TheVariants.{Truth}
 use Rattle.bv_expr.specs.Sorts.{vectors}
@@ -23,7 +23,7 @@ pub record Bound : Type 0 where
 
 -- n names from the place i on
 abbrev pub bounds : Source → Option Sort → ℕ → ℕ → List Bound
-bounds s sort i n = map (λ k. record { at = i + k; name = text_at s (i + k); sort = sort }) (range n)
+bounds s sort i n = map (λ k. record { at = k; name = text_at s k; sort = sort }) (range_with_len i n)
 
 abbrev pub binder_bounds : Source → Binder → List Bound
 binder_bounds s (variables i j w) = bounds s (sort_at s w) i (j - i)

@@ -1,9 +1,17 @@
 //! Types of theorem files: which terms fit together, at which width a bare numeral is read, and what each goal states.
 #![tactic(auto)]
 
+mod building;
+mod item;
 mod kind;
 mod method;
+mod methods;
+mod misfit;
 mod note;
+mod rows;
+mod sorts;
+mod widths;
 
 pub use kind::{Kind, Row};
 pub use method::{Method, Numbered};
+pub use misfit::Misfit;
