@@ -21,7 +21,7 @@ use Rattle.bv_typing.specs.declared.method.Numbered.{Numbered}
 use Rattle.bv_typing.specs.Source.{number_at}
 use Rattle.bv_typing.specs.Rows.{binary_of}
 use Rattle.bv_typing.specs.Stacks.{top, below}
-use Rattle.bv_typing.specs.Readings.{Env, variable_at, method_at, variable_term, constant_term, prefix_unary, shift_unary, is_shift, joined_by, numbered_unary}
+use Rattle.bv_typing.specs.Readings.{Env, variable_at, method_at, variable_term, constant_term, prefix_unary, shift_unary, is_shift, is_turned, numbered_unary}
 
 -- ---- items from items
 
@@ -52,9 +52,15 @@ binary_item op _ _ = None
 abbrev pub shift_item : Word → Term → ℕ → Option Item
 shift_item o x n = if is_shift o then checked (unary (shift_unary o n) x) else None
 
+-- negated, where the operator is a negated one
+abbrev pub negated_item : Word → Option Item → Option Item
+negated_item words.NotEqual x = option_and_then (unary_item of.TNot) x
+negated_item words.BoolNotEqual x = option_and_then (unary_item of.TNot) x
+negated_item _ x = x
+
 abbrev pub joined_item : Word → Option Binary → Term → Term → Option Item
 joined_item o None x y = None
-joined_item o (Some op) x y = checked (joined_by o (Some op) x y)
+joined_item o (Some op) x y = negated_item o (checked (if is_turned o then binary op y x else binary op x y))
 
 abbrev pub infix_item : Word → Item → Item → Option Item
 infix_item o (Made x) (Number n) = shift_item o x n
