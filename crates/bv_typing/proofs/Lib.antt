@@ -1,3 +1,4 @@
+pub mod Told
 pub mod Least
 pub mod ByParts
 pub mod Judged

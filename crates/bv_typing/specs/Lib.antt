@@ -11,3 +11,5 @@ pub mod Earliest
 pub mod Notes
 pub mod Judging
 pub mod Faults
+pub mod Widths
+pub mod Building
