@@ -1,4 +1,6 @@
+pub mod Told
 pub mod Least
 pub mod ByParts
 pub mod Judged
 pub mod Placing
+pub mod InGoals

@@ -10,3 +10,6 @@ pub mod Goals
 pub mod Earliest
 pub mod Notes
 pub mod Judging
+pub mod Faults
+pub mod Widths
+pub mod Building

@@ -1,6 +1,8 @@
 //! Types of theorem files: which terms fit together, at which width a bare numeral is read, and what each goal states.
 #![tactic(auto)]
 
+mod building;
+mod faults;
 mod item;
 mod judging;
 mod kind;
@@ -14,7 +16,11 @@ mod source;
 mod telling;
 mod variables;
 mod verdicts;
+mod widths;
 
 pub use kind::{Kind, Row};
 pub use method::{Method, Numbered};
 pub use misfit::Misfit;
+
+#[cfg(test)]
+mod tests;
