@@ -1,9 +1,10 @@
 -- What the machine by watched literals keeps over its steps.
-use Rattle.std.proofs.Common.{◌≡◌, ◌≢◌, ℕ, zero, suc, ◌+◌, ◌-◌, ◌<◌, ◌≤◌, Bool, true, false, not, ◌&&◌, ◌||◌, cond, nat_eq, List, [], ◌∷◌, ◌++◌, length, get_or, refl, ap, sym, ◌∙◌, subst, inl, inr, arith}
+use Rattle.std.proofs.Common.{◌≡◌, ◌≢◌, ℕ, zero, suc, ◌+◌, ◌-◌, ◌<◌, ◌≤◌, Bool, true, false, not, ◌&&◌, ◌||◌, cond, nat_eq, List, [], ◌∷◌, ◌++◌, length, get_or, take, refl, ap, sym, ◌∙◌, subst, inl, inr, arith}
 use Rattle.std.specs.Prelude.{None, is_none}
 use Rattle.std.specs.List.{All, find, list_all, list_any, range_with_len}
 use Rattle.std.proofs.lemmas.Bool.{cases_eq}
 use Rattle.std.proofs.lemmas.Grind.{common_steps}
+use Rattle.std.proofs.lemmas.List.{take-append-le}
 use Rattle.sat_form.specs.Literals.{Literal, negate, same_literal, set_of}
 use Rattle.sat_form.specs.Shape.{is_formula}
 use Rattle.sat_form.proofs.Sets as sets
@@ -13,10 +14,12 @@ use Rattle.search_learn.specs.declared.Turn.{Turn}
 use Rattle.search_learn.specs.declared.Turn.TheVariants.{More, Unsat}
 use Rattle.search_learn.specs.Analysis.{Lesson, back_level, resolve_back}
 use Rattle.search_learn.specs.Cases.{Teaches, put_entries, put_one}
-use Rattle.search_learn.specs.Machine.{Clause, State, all_assigned, assign, choose, clause_at, quietly, step}
+use Rattle.search_learn.specs.Engine.{Engine, stepped}
+use Rattle.search_learn.specs.Machine.{Clause, Moved, State, all_assigned, assign, choose, clause_at, quietly, step}
 use Rattle.search_learn.specs.Rule.{clause_with}
 use Rattle.search_learn.specs.Trail.{clause_false, cut, is_assigned, is_true, level, unit_literal}
 use Rattle.search_learn.specs.Values.{IsOfMachine}
+use Rattle.search_learn.proofs.Cases.{stepped_whole}
 use Rattle.search_learn.proofs.Decisions.{clash, two_signs}
 use Rattle.search_learn.proofs.Entries.{assigned_last}
 use Rattle.search_learn.proofs.Keeps.{Kept}
@@ -103,11 +106,28 @@ first-chosen m r v same size has first =
     chooses m v first.above first.free (λ w above within free. subst (λ (s : List ℕ). comes_before s w v ≡ false) (sym same) (first.first w above (has w above within free) free))
     (subst (λ (n : ℕ). v ≤ n) (ap length (sym same) ∙ size) first.within)
 
+-- The given clauses stand before the learnt ones: where these grow, those stay.
+pub stepped_given : (s : Engine) (r : Moved) (cs : List (List Literal)) → cs ≡ s.clauses → step s.budget s.state ≡ r → s.broken ≡ false → record s { clauses = cs; state = r.state; last = r.learnt; broken = false } ≡ stepped s
+stepped_given s r cs same moves whole = (λ i. record s { clauses = same i; state = r.state; last = r.learnt; broken = false }) ∙ stepped_whole s r moves whole
+
+pub follows_given : (cs ds : List (List Literal)) (budget vars learner : ℕ) (n : Net) (r : Ranking) (m : State) → cs ≡ ds → Follows ds budget vars learner n r m → Follows cs budget vars learner n r m
+follows_given cs ds budget vars learner n r m same f = subst (λ (x : List (List Literal)). Follows x budget vars learner n r m) (sym same) f
+
+taken_within : (k : ℕ) (cs : List (List Literal)) → k ≡ length (take k cs) → k ≤ length cs
+taken_within zero cs is = omega arith
+taken_within (suc k) [] is = absurd (omega arith)
+taken_within (suc k) (c ∷ cs) is = let deep = taken_within k cs (omega arith) in omega arith
+
+pub taken_more : (k : ℕ) (cs ds : List (List Literal)) → k ≡ length (take k cs) → take k (cs ++ ds) ≡ take k cs
+taken_more k cs ds is = let within : k ≤ length cs = taken_within k cs is in rw take-append-le refl
+
 module _ (cs : List (List Literal)) (budget vars learner : ℕ) (n : Net) (r : Ranking) (m : State) (f : Follows cs budget vars learner n r m) where
   pub follows_stop : (turn : Turn) → step budget m ≡ quietly (record m { end = turn }) → (turn ≡ More → m.end ≡ More) → Follows cs budget vars learner n r (record m { end = turn })
   follows_stop turn moves same = record {
     learnt = f.learnt;
     size = f.size;
+    given = f.given;
+    formula = f.formula;
     holds = holds_stop cs budget vars f.learnt m turn f.holds moves same;
     clauses = f.clauses;
     learner = f.learner;
@@ -121,6 +141,8 @@ module _ (cs : List (List Literal)) (budget vars learner : ℕ) (n : Net) (r : R
   follows_ends turn q ends scores size moves = record {
     learnt = f.learnt;
     size = f.size;
+    given = f.given;
+    formula = f.formula;
     holds = subst (Holds cs budget vars f.learnt) (λ i. record m { scores = sym scores i; end = turn }) (holds_stop cs budget vars f.learnt m turn f.holds moves (λ e. absurd (ends e)));
     clauses = f.clauses;
     learner = f.learner;
@@ -133,6 +155,8 @@ module _ (cs : List (List Literal)) (budget vars learner : ℕ) (n : Net) (r : R
   follows_refute s t empty = record {
     learnt = f.learnt;
     size = f.size;
+    given = f.given;
+    formula = f.formula;
     holds = holds_refute cs budget vars f.learnt m s f.holds t empty;
     clauses = f.clauses;
     learner = f.learner;

@@ -1,6 +1,7 @@
 -- What the machine by watched literals keeps beside its state.
-use Rattle.std.specs.Prelude.{◌≡◌, ℕ, ◌+◌, List, [], length}
+use Rattle.std.specs.Prelude.{◌≡◌, ℕ, ◌+◌, true, List, [], length}
 use Rattle.sat_form.specs.Literals.{Literal}
+use Rattle.sat_form.specs.Shape.{is_formula}
 use Rattle.search_heap.specs.Ranking.{Ranking}
 use Rattle.search_learn.specs.declared.Turn.TheVariants.{More}
 use Rattle.search_learn.specs.Machine.{State, numbered}
@@ -13,6 +14,8 @@ pub record Follows (cs : List (List Literal)) (budget vars learner_vars : ℕ) (
   -- the given clauses, and those learnt behind them
   pub learnt : ℕ
   pub size : length n.clauses ≡ length cs + learnt
+  pub given : m.inputs ≡ length cs
+  pub formula : is_formula m.vars cs ≡ true
   pub holds : Holds cs budget vars learnt m
   pub clauses : m.clauses ≡ numbered 1 n.clauses
   pub learner : learner_vars ≡ m.vars

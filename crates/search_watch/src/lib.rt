@@ -5,6 +5,7 @@
 
 ghost use Rattle.std.specs.Prelude.{◌≡◌, ◌≢◌, ◌≤◌, ◌^◌, [], false, true, IfNone, IfOk, IfSome, OnErr, OnOk, OnSome, length, replicate};
 ghost use Rattle.std.specs.Option.{option_copied, option_map};
+ghost use Rattle.sat_form.specs.Shape.{is_formula};
 ghost use Rattle.sat_form.specs.Truth.{satisfies, value_of};
 ghost use Rattle.search_learn.specs.Analysis.{seen};
 ghost use Rattle.search_learn.specs.Cases.{IsConflict, IsRound, Teaches};
@@ -35,7 +36,9 @@ use watches::Watches;
 #[derive(Drop)]
 pub struct Rounds {
     alloc: Global,
-    clauses: Cnf,
+    vars: u32,
+    /// How many clauses were given; the learnt ones stand behind them.
+    inputs: usize,
     watches: Watches,
     learner: Learner,
     heap: Heap,
@@ -62,7 +65,7 @@ enum Case {
 }
 
 impl Model for Rounds {
-    ghost use Rattle.std.specs.Prelude.{List, false, length, ◌≡◌};
+    ghost use Rattle.std.specs.Prelude.{List, false, take, ◌≡◌};
     ghost use Rattle.std.specs.Option.{option_map};
     ghost use Rattle.search_learn.specs.Analysis.{seen};
     ghost use Rattle.search_learn.specs.Machine.{numbered};
@@ -73,12 +76,12 @@ impl Model for Rounds {
     ghost Value = { Engine };
 
     ghost view = { λ p. record {
-      vars = p.clauses.vars;
-      clauses = p.clauses.clauses;
+      vars = p.vars;
+      clauses = take p.inputs p.watches.clauses;
       budget = p.budget;
       state = record {
-        vars = p.clauses.vars;
-        inputs = length p.clauses.clauses;
+        vars = p.vars;
+        inputs = p.inputs;
         clauses = numbered 1 p.watches.clauses;
         trail = p.trail.steps;
         scores = p.heap.scores;
@@ -93,9 +96,9 @@ impl Model for Rounds {
       broken = p.broken;
     } };
 
-    ghost invariant = { λ p. p.broken ≡ false → Follows p.clauses.clauses p.budget p.trail.vars p.learner (net p.watches) p.heap (record {
-      vars = p.clauses.vars;
-      inputs = length p.clauses.clauses;
+    ghost invariant = { λ p. p.broken ≡ false → Follows (take p.inputs p.watches.clauses) p.budget p.trail.vars p.learner (net p.watches) p.heap (record {
+      vars = p.vars;
+      inputs = p.inputs;
       clauses = numbered 1 p.watches.clauses;
       trail = p.trail.steps;
       scores = p.heap.scores;
@@ -116,17 +119,20 @@ impl Rounds {
     {
         let trail = Trail::new(alloc, cnf.vars)?;
         let watches = Watches::of(alloc, &trail, cnf)?;
-        let clauses = cnf.copy(alloc)?;
         let learner = Learner::new(alloc, cnf.vars)?;
         let heap = Heap::new(alloc, cnf.vars)?;
         let signs = vec![in alloc; false; cnf.vars as usize]?;
-        Ok(Rounds::begin(alloc, clauses, watches, learner, heap, trail, signs, budget))
+        let inputs = cnf.clauses.len();
+        Ok(Rounds::begin(
+            alloc, cnf.vars, inputs, watches, learner, heap, trail, signs, budget,
+        ))
     }
 
     /// The machine at its start, of its parts.
     fn begin(
         alloc: Global,
-        clauses: Cnf,
+        vars: u32,
+        inputs: usize,
         watches: Watches,
         learner: Learner,
         heap: Heap,
@@ -135,17 +141,19 @@ impl Rounds {
         budget: u64,
     ) -> Rounds
         requires limit { budget ≤ 2 ^ 62 }
-        requires watched { watches.clauses ≡ clauses.clauses }
-        requires net { IsNet clauses.vars [] [] (net watches) }
-        requires learner { learner ≡ clauses.vars }
-        requires heap { heap ≡ all_of clauses.vars }
-        requires trail { trail ≡ record { vars = clauses.vars; steps = [] } }
-        requires signs { signs.items ≡ replicate clauses.vars false }
-        ensures { result ≡ begun clauses.vars clauses.clauses budget }
+        requires given { inputs ≡ length watches.clauses }
+        requires formula { is_formula vars watches.clauses ≡ true }
+        requires net { IsNet vars [] [] (net watches) }
+        requires learner { learner ≡ vars }
+        requires heap { heap ≡ all_of vars }
+        requires trail { trail ≡ record { vars = vars; steps = [] } }
+        requires signs { signs.items ≡ replicate vars false }
+        ensures { result ≡ begun vars watches.clauses budget }
     {
         Rounds {
             alloc,
-            clauses,
+            vars,
+            inputs,
             watches,
             learner,
             heap,

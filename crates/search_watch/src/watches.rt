@@ -1,6 +1,6 @@
 //! The clauses of a search with their watches, and the lists of the clauses that are watched at each literal.
 
-ghost use Rattle.std.specs.Prelude.{◌++◌, ◌+◌, ◌-◌, ◌∷◌, ◌≡◌, ◌≢◌, ◌<◌, ◌≤◌, ◌^◌, [], All, IfOk, None, OnOk, drop, false, get_or, length, slice_set, true};
+ghost use Rattle.std.specs.Prelude.{◌++◌, ◌+◌, ◌-◌, ◌∷◌, ◌≡◌, ◌≢◌, ◌<◌, ◌≤◌, ◌^◌, [], All, IfOk, None, OnErr, OnOk, drop, false, get_or, length, slice_set, true};
 ghost use Rattle.search_learn.specs.Cases.{put_entries, unit_entries};
 ghost use Rattle.search_learn.specs.Machine as machine;
 ghost use Rattle.search_learn.specs.Machine.{numbered};
@@ -121,7 +121,8 @@ impl Watches {
         requires values { AreValues (length values.now) values.now trail.now }
         requires within { lit.var ≤ length values.now }
         requires shape { IsShaped (length values.now) (net self.old) }
-        ensures { OnOk result (net self.new ≡ visited trail.now lit (net self.old)) }
+        ensures net { OnOk result (net self.new ≡ visited trail.now lit (net self.old)) }
+        ensures clauses { self.new.clauses ≡ self.old.clauses }
     {
         let at = index_of(lit);
         let mut list = mem::replace(&mut self.lists[at], Vec::new(self.alloc));
@@ -151,7 +152,7 @@ impl Watches {
         requires within { All (λ e. e.lit.var ≤ length values.now) trail.now }
         requires net { IsNet (length values.now) trail.now (negated (drop from trail.now)) (net self.old) }
         ensures net { OnOk result (IsNet (length values.now) trail.now [] (net self.new)) }
-        ensures clauses { OnOk result (self.new.clauses ≡ self.old.clauses) }
+        ensures clauses { self.new.clauses ≡ self.old.clauses }
     {
         let mut at = from;
         while at < trail.len() {
@@ -180,7 +181,7 @@ impl Watches {
             → put_entries (unit_entries trail.old.steps level (numbered 1 self.old.clauses)) m ≡ record m { trail = trail.new.steps; signs = signs.new; spent = m.spent + count }) }
         ensures count { IfOk result (λ count. count < 2 ^ 63) }
         ensures net { OnOk result (IsNet trail.new.vars trail.new.steps [] (net self.new)) }
-        ensures clauses { OnOk result (self.new.clauses ≡ self.old.clauses) }
+        ensures clauses { self.new.clauses ≡ self.old.clauses }
         ensures vars { OnOk result (trail.new.vars ≡ trail.old.vars) }
         ensures signs { OnOk result (length signs.new ≡ length signs.old) }
     {
@@ -196,7 +197,8 @@ impl Watches {
     /// Enters a clause in the list of a literal.
     fn enter(&mut self, lit: Lit, clause: usize) -> Result<(), AllocError>
         requires { watched.index_of lit < length self.old.lists.items }
-        ensures { OnOk result (net self.new ≡ record (net self.old) { lists = entered (net self.old).lists lit clause }) }
+        ensures net { OnOk result (net self.new ≡ record (net self.old) { lists = entered (net self.old).lists lit clause }) }
+        ensures clauses { self.new.clauses ≡ self.old.clauses }
     {
         self.lists[index_of(lit)].push(clause)?;
         Ok(())
@@ -204,7 +206,8 @@ impl Watches {
 
     /// Notes whether a clause is unit or false, where this is said by one of its literals and a search for another one.
     fn note(&mut self, clause: usize, lit: Lit, seen: Outcome) -> Result<(), AllocError>
-        ensures { OnOk result (net self.new ≡ record (net self.old) { units = units_with seen clause lit (net self.old).units; least = least_with seen clause (net self.old).least }) }
+        ensures net { OnOk result (net self.new ≡ record (net self.old) { units = units_with seen clause lit (net self.old).units; least = least_with seen clause (net self.old).least }) }
+        ensures clauses { self.new.clauses ≡ self.old.clauses }
     {
         match seen {
             Outcome::Implies => self.found.units.push(UnitClause { clause, lit })?,
@@ -214,7 +217,8 @@ impl Watches {
         Ok(())
     }
 
-    /// Adds a clause with literals, watched on a trail, and notes whether it is unit or false there.
+    /// Adds a clause with literals, watched on a trail, and notes whether it is unit or false there. After a refusal
+    /// the clauses are as before.
     pub fn add(&mut self, trail: &Trail, lits: &[Lit]) -> Result<(), AllocError>
         requires net { IsNet trail.now.vars trail.now.steps [] (net self.old) }
         requires some { lits.now ≢ [] }
@@ -224,16 +228,17 @@ impl Watches {
         requires open { 0 < trails.level trail.now.steps → IsOpen trail.now.steps lits.now }
         ensures net { OnOk result (IsNet trail.now.vars trail.now.steps [] (net self.new)) }
         ensures clauses { OnOk result (self.new.clauses ≡ self.old.clauses ++ lits.now ∷ []) }
+        ensures kept { OnErr result (self.new.clauses ≡ self.old.clauses) }
     {
         let clause = self.clauses.len();
         let first = free_literal(trail, lits);
         let second = highest_beside(trail, lits, first);
-        self.clauses.push(lits)?;
         self.pairs.push(Pair { first, second })?;
         self.enter(first, clause)?;
         self.enter(second, clause)?;
         let seen = look_at(trail.steps(), trail.values(), lits, first);
         self.note(clause, first, seen)?;
+        self.clauses.push(lits)?;
         Ok(())
     }
 
@@ -263,7 +268,7 @@ impl Watches {
         ensures trail { OnOk result (trail.new ≡ record trail.old { steps = trail.old.steps ++ decision trail.old.steps signs.old var ∷ [] }) }
         ensures signs { OnOk result (signs.new ≡ slice_set signs.old (var - 1) (get_or signs.old (var - 1) false)) }
         ensures net { OnOk result (IsNet trail.new.vars trail.new.steps [] (net self.new)) }
-        ensures clauses { OnOk result (self.new.clauses ≡ self.old.clauses) }
+        ensures clauses { self.new.clauses ≡ self.old.clauses }
     {
         let from = trail.steps().len();
         let step = Step {

@@ -1,4 +1,4 @@
-use Rattle.std.proofs.Common.{ap, sym}
+use Rattle.std.proofs.Common.{ap, sym, take}
 use Rattle.std.specs.Option.{option_map}
 use Rattle.search_learn.specs.Machine.{Clause}
 use Rattle.search_learn.proofs.Cases.{false_spent, false_taught, unit_spent, unit_round}
@@ -15,7 +15,7 @@ returns-then-spent c =
     let m = (the_view p).state in
     let f = c.self.invariant (rw (← c.self.view_is) at c.requires.whole) in
     let more = rw (← c.self.view_is) at c.requires.going in
-    let sound = consistent m.vars m.trail (follows.machine p.clauses.clauses p.budget _ _ _ _ m f p.clauses.in_range) in
+    let sound = consistent m.vars m.trail (follows.machine (take p.inputs p.watches.clauses) p.budget _ _ _ _ m f f.formula) in
     rw (← c.self.view_is) (false_spent p.budget m more _ (least-found m.vars m.trail (net p.watches) (f.net more) sound c.in-Some.place c.in-Some.is) c.if-spent.true)
 
 pub returns-else-spent : goal.returns-else-spent
@@ -24,7 +24,7 @@ returns-else-spent c =
     let m = (the_view p).state in
     let f = c.self.invariant (rw (← c.self.view_is) at c.requires.whole) in
     let more = rw (← c.self.view_is) at c.requires.going in
-    let sound = consistent m.vars m.trail (follows.machine p.clauses.clauses p.budget _ _ _ _ m f p.clauses.in_range) in
+    let sound = consistent m.vars m.trail (follows.machine (take p.inputs p.watches.clauses) p.budget _ _ _ _ m f f.formula) in
     rw (← c.self.view_is) (false_taught p.budget m more _ (least-found m.vars m.trail (net p.watches) (f.net more) sound c.in-Some.place c.in-Some.is) c.if-spent.false)
 
 pub returns-then-is_empty : goal.returns-then-is_empty
@@ -33,7 +33,7 @@ returns-then-is_empty c =
     let m = (the_view p).state in
     let f = c.self.invariant (rw (← c.self.view_is) at c.requires.whole) in
     let more = rw (← c.self.view_is) at c.requires.going in
-    let sound = consistent m.vars m.trail (follows.machine p.clauses.clauses p.budget _ _ _ _ m f p.clauses.in_range) in
+    let sound = consistent m.vars m.trail (follows.machine (take p.inputs p.watches.clauses) p.budget _ _ _ _ m f f.formula) in
     let none = vec-none p.watches.found.units c.if-is_empty.ensures in
     rw (← c.self.view_is) (record {
       unbroken = record { before = more; none = none-found m.vars m.trail (net p.watches) (f.net more) sound c.in-None.is };
@@ -46,7 +46,7 @@ returns-then-spent-2 c =
     let m = (the_view p).state in
     let f = c.self.invariant (rw (← c.self.view_is) at c.requires.whole) in
     let more = rw (← c.self.view_is) at c.requires.going in
-    let sound = consistent m.vars m.trail (follows.machine p.clauses.clauses p.budget _ _ _ _ m f p.clauses.in_range) in
+    let sound = consistent m.vars m.trail (follows.machine (take p.inputs p.watches.clauses) p.budget _ _ _ _ m f f.formula) in
     let none = none-found m.vars m.trail (net p.watches) (f.net more) sound c.in-None.is in
     let one = one-of p.watches.found.units.items (vec-some p.watches.found.units c.if-is_empty.ensures) in
     rw (← c.self.view_is) (unit_spent p.budget m more (sym (ap (option_map (λ (x : Clause). x.id)) none)) (units-some m.vars m.trail (net p.watches) (f.net more) sound one.0 one.1) c.if-spent-2.true)
@@ -57,7 +57,7 @@ returns-else-spent-2 c =
     let m = (the_view p).state in
     let f = c.self.invariant (rw (← c.self.view_is) at c.requires.whole) in
     let more = rw (← c.self.view_is) at c.requires.going in
-    let sound = consistent m.vars m.trail (follows.machine p.clauses.clauses p.budget _ _ _ _ m f p.clauses.in_range) in
+    let sound = consistent m.vars m.trail (follows.machine (take p.inputs p.watches.clauses) p.budget _ _ _ _ m f f.formula) in
     let none = none-found m.vars m.trail (net p.watches) (f.net more) sound c.in-None.is in
     let one = one-of p.watches.found.units.items (vec-some p.watches.found.units c.if-is_empty.ensures) in
     rw (← c.self.view_is) (unit_round p.budget m more (sym (ap (option_map (λ (x : Clause). x.id)) none)) (units-some m.vars m.trail (net p.watches) (f.net more) sound one.0 one.1) c.if-spent-2.false, record { before = more; none = none })

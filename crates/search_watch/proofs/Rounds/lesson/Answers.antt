@@ -1,4 +1,4 @@
-use Rattle.std.proofs.Common.{ℕ, sym, refl, subst, arith}
+use Rattle.std.proofs.Common.{ℕ, sym, refl, subst, arith, take}
 use Rattle.search_learn.specs.Rule.{IsTrail, clause_with}
 use Rattle.search_learn.specs.Trail.{clause_false}
 use Rattle.search_learn.proofs.Lessons as learnt
@@ -12,8 +12,8 @@ learn-requires-clause-trail c =
     let p = c.self.inside in
     let m = (the_view p).state in
     let f = c.self.invariant (rw (← c.self.view_is) at c.requires.whole) in
-    let kept = follows.kept p.clauses.clauses p.budget _ _ _ _ m f p.clauses.in_range in
-    subst (λ (v : ℕ). IsTrail (clause_with p.watches.clauses) v p.trail.steps) (sym f.holds.over) (learnt.trail_by_place p.watches.clauses p.clauses.vars p.trail.steps kept.is_trail)
+    let kept = follows.kept (take p.inputs p.watches.clauses) p.budget _ _ _ _ m f f.formula in
+    subst (λ (v : ℕ). IsTrail (clause_with p.watches.clauses) v p.trail.steps) (sym f.holds.over) (learnt.trail_by_place p.watches.clauses p.vars p.trail.steps kept.is_trail)
 
 pub learn-requires-clause-known : goal.learn-requires-clause-known
 learn-requires-clause-known c =
@@ -31,7 +31,7 @@ learn-requires-clause-conflict c =
     let p = c.self.inside in
     let m = (the_view p).state in
     let f = c.self.invariant (rw (← c.self.view_is) at c.requires.whole) in
-    let kept = follows.kept p.clauses.clauses p.budget _ _ _ _ m f p.clauses.in_range in
+    let kept = follows.kept (take p.inputs p.watches.clauses) p.budget _ _ _ _ m f f.formula in
     learnt.false_by_place p.budget m p.watches.clauses c.args.id refl kept (rw (← c.self.view_is) at c.requires.here)
 
 pub returns-clause-lesson : goal.returns-clause-lesson

@@ -33,13 +33,14 @@ returns-clause-net c =
     let pair : Pair = record { first = first; second = second } in
     let n : Net = net c.args.self.now in
     let len : c.len-clause.result ≡ length n.clauses = c.len-clause.ensures in
-    let clauses = c.in_ok-push.ensures.ok in
-    let pairs = c.in_ok-push-2.ensures.items in
+    let pairs = c.in_ok-push.ensures.items in
     let seen : c.look_at-seen.result ≡ outcome t lits first = c.look_at-seen.ensures ∙ ap (λ (x : List Step). outcome x lits first) c.steps.ensures in
-    let one : net c.enter.new.self ≡ record n { clauses = n.clauses ++ lits ∷ []; pairs = n.pairs ++ pair ∷ []; lists = entered n.lists first (length n.clauses) } =
-    c.in_ok-enter.ensures ∙ (λ i. record n { clauses = clauses i; pairs = pairs i; lists = entered n.lists first (len i) }) in
-    let two : net c.enter-2.new.self ≡ record n { clauses = n.clauses ++ lits ∷ []; pairs = n.pairs ++ pair ∷ []; lists = entered (entered n.lists first (length n.clauses)) second (length n.clauses) } =
-    c.in_ok-enter-2.ensures ∙ (λ i. record (one i) { lists = entered (one i).lists second (len i) }) in
-    let three : net c.note.new.self ≡ joined t lits first second n =
-    c.in_ok-note.ensures ∙ (λ i. record (two i) { units = units_with (seen i) (len i) first (two i).units; least = least_with (seen i) (len i) (two i).least }) in
-    subst (IsNet vars t []) (sym three) (join-net vars t n lits first second c.requires.net c.requires.some c.requires.variables c.requires.within c.requires.machine c.requires.open c.free_literal-first.ensures c.highest_beside-second.ensures.highest)
+    let one : net c.enter.new.self ≡ record n { pairs = n.pairs ++ pair ∷ []; lists = entered n.lists first (length n.clauses) } =
+    c.in_ok-enter.ensures.net ∙ (λ i. record n { pairs = pairs i; lists = entered n.lists first (len i) }) in
+    let two : net c.enter-2.new.self ≡ record n { pairs = n.pairs ++ pair ∷ []; lists = entered (entered n.lists first (length n.clauses)) second (length n.clauses) } =
+    c.in_ok-enter-2.ensures.net ∙ (λ i. record (one i) { lists = entered (one i).lists second (len i) }) in
+    let three : net c.note.new.self ≡ record (joined t lits first second n) { clauses = n.clauses } =
+    c.in_ok-note.ensures.net ∙ (λ i. record (two i) { units = units_with (seen i) (len i) first (two i).units; least = least_with (seen i) (len i) (two i).least }) in
+    let clauses = c.in_ok-push-2.ensures.ok ∙ ap (λ (x : Net). x.clauses ++ lits ∷ []) three in
+    let four : record (net c.note.new.self) { clauses = c.push-2.new.self } ≡ joined t lits first second n = λ i. record (three i) { clauses = clauses i } in
+    subst (IsNet vars t []) (sym four) (join-net vars t n lits first second c.requires.net c.requires.some c.requires.variables c.requires.within c.requires.machine c.requires.open c.free_literal-first.ensures c.highest_beside-second.ensures.highest)

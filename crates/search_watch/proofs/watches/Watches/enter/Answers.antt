@@ -3,8 +3,8 @@ use Rattle.search_watch.specs.Watched as watched
 use Rattle.search_watch.proofs.Tables.{pushed}
 use Rattle.search_watch.proofs.watches.Watches.enter.Goals as goal
 
-pub returns : goal.returns
-returns c =
+pub returns-clause-net : goal.returns-clause-net
+returns-clause-net c =
     let w = c.args.self.now in
     let at = c.index_of.result in
     let v = c.index_mut.result.now in

@@ -10,8 +10,8 @@ loop-at-preserved c =
     let vars = length c.args.values.now in
     let low = c.loop-at-test.true in
     let within : c.not-lit.result.var ≤ vars = subst (λ (l : Literal). l.var ≤ vars) (sym c.not-lit.ensures) (c.requires.within c.loop-at.at e low) in
-    let seen = c.in_ok-visit.ensures in
+    let seen = c.in_ok-visit.ensures.net in
     record {
       net = look-step vars c.args.trail.now c.loop-at.at e c.not-lit.result _ _ low c.index-trail-at.is (c.not-lit.ensures ∙ ap (λ (x : Step). negate x.lit) (sym c.index-trail-at.is)) within c.loop-at.invariant.net seen;
-      clauses = ap (λ n. n.clauses) seen ∙ c.loop-at.invariant.clauses;
+      clauses = c.in_ok-visit.ensures.clauses ∙ c.loop-at.invariant.clauses;
     }

@@ -17,8 +17,8 @@ walk-requires-clause-entries c =
     λ k low. subst (λ (ps : List Pair). get_or c.deref_mut-3.result.now k 0 < length ps) (sym c.deref_mut.ensures.value)
     (shape.size _ (shape.entries lit (get_or c.deref_mut-3.result.now k 0) (subst (λ (xs : List ℕ). has xs (get_or c.deref_mut-3.result.now k 0) ≡ true) taken (has-at c.deref_mut-3.result.now k 0 low))))
 
-pub returns : goal.returns
-returns c =
+pub returns-clause-net : goal.returns-clause-net
+returns-clause-net c =
     let w = c.args.self.now in
     let lit = c.args.lit in
     let shape = c.requires.shape in
