@@ -23,7 +23,7 @@ use Rattle.bv_expr.specs.Sorts.{sort_of, LeavesFit, IsExpr}
 use Rattle.bv_expr.specs.Meaning.{meaning, sort_of_value, HasValues}
 use Rattle.bv_expr.specs.Goal.{Binders, sorts_of, AreValues, IsValue, IsGoal, IsTruthOver, MeansTrue, Falsifies}
 use Rattle.bv_expr.proofs.Over.{has_values}
-use Rattle.blast_goal.specs.Circuit.{truth_of, circuit, truth_row, and_hypothesis, all_hypotheses, and_not_conclusion, goal_row}
+use Rattle.blast_goal.specs.Circuit.{truth_of, circuit, truth_row, and_hypothesis, all_hypotheses, and_not_conclusion, falsifying_row}
 use Rattle.blast_goal.specs.Values.{bit_of, input_bits, all_bits, value_with, values_from, values_of}
 use Rattle.blast_goal.proofs.Sorting.{some_same}
 use Rattle.blast_goal.proofs.Laws.{Writes, truth_of-value}
@@ -139,8 +139,8 @@ module _ (bits : ℕ → ℕ → Bool) (values : List Val) (are : AreRead values
   not_true true h = cc
   not_true false h = refl
 
-  goal-value : (hyps : List Term) (concl : Term) → All IsFit hyps → IsFit concl → IsTrue (at (goal_row hyps concl).answer) ↔ Falsifies hyps concl values
-  unfolding goal_row all_hypotheses and_not_conclusion ◌>>=◌
+  goal-value : (hyps : List Term) (concl : Term) → All IsFit hyps → IsFit concl → IsTrue (at (falsifying_row hyps concl).answer) ↔ Falsifies hyps concl values
+  unfolding falsifying_row all_hypotheses and_not_conclusion ◌>>=◌
   goal-value hyps concl fit fits =
       let e = (along and_hypothesis (constant true) hyps).answer in
       let c = (truth_row concl).answer in
@@ -159,15 +159,15 @@ module _ (binders : Binders) (hyps : List Term) (concl : Term) (goal : IsGoal bi
   fit_at : (values : List Val) (bits : ℕ → ℕ → Bool) (are : AreRead values bits) (t : Term) → map sort_of_value values ≡ sorts_of binders → IsTruthOver (sorts_of binders) t → IsExpr t → IsFit bits values are t
   fit_at values bits are t e over ex = record { sorted = over.truth; leaves = ex.leaves; has = has_values (sorts_of binders) values t e over.over }
 
-  goal_at : (values : List Val) (bits : ℕ → ℕ → Bool) (are : AreRead values bits) → map sort_of_value values ≡ sorts_of binders → IsTrue (value bits (goal_row hyps concl).answer) ↔ Falsifies hyps concl values
+  goal_at : (values : List Val) (bits : ℕ → ℕ → Bool) (are : AreRead values bits) → map sort_of_value values ≡ sorts_of binders → IsTrue (value bits (falsifying_row hyps concl).answer) ↔ Falsifies hyps concl values
   goal_at values bits are e =
       goal-value bits values are hyps concl
       (λ i d l. fit_at values bits are _ e (goal.hyps_fit i d l) (exprs i d l))
       (fit_at values bits are concl e goal.concl_fits expr)
 
   -- the same for the values of a goal's variables, and for those that are read off any bits
-  pub edge-value : (values : List Val) → AreValues binders values → IsTrue (value (input_bits values) (goal_row hyps concl).answer) ↔ Falsifies hyps concl values
+  pub edge-value : (values : List Val) → AreValues binders values → IsTrue (value (input_bits values) (falsifying_row hyps concl).answer) ↔ Falsifies hyps concl values
   edge-value values fit = goal_at values (input_bits values) (are_own values fit.are_values) fit.of_the_sorts
 
-  pub edge-read : (bits : ℕ → ℕ → Bool) → IsTrue (value bits (goal_row hyps concl).answer) ↔ Falsifies hyps concl (values_of binders bits)
+  pub edge-read : (bits : ℕ → ℕ → Bool) → IsTrue (value bits (falsifying_row hyps concl).answer) ↔ Falsifies hyps concl (values_of binders bits)
   edge-read bits = goal_at (values_of binders bits) bits (are_read binders bits) (sorts_same 0 binders bits)

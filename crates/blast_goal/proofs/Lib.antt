@@ -3,3 +3,5 @@ pub mod Laws
 pub mod Meaning
 pub mod Rows
 pub mod Falsifying
+pub mod Reading
+pub mod Normalised

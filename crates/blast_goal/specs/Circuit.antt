@@ -17,6 +17,7 @@ use Rattle.blast_arith.specs.Comparisons.{equal, less, at_most, signed_less, sig
 use Rattle.blast_mul.specs.Product.{product}
 use Rattle.blast_div.specs.Division.{quotient, remainder}
 use Rattle.blast_div.specs.Signed.{signed_quotient, signed_remainder, signed_modulus}
+use Rattle.bv_normal.specs.Normal.{normal}
 use Rattle.blast_shift.specs.Wires.{shifted_left, shifted_right, shifted_right_signed, rotated_left, rotated_right, appended, extracted, with_width, sign_extended}
 use Rattle.blast_shift.specs.Stages.{variable_shift, variable_shift_signed}
 
@@ -126,8 +127,12 @@ and_not_conclusion e t = do
   c ← truth_row t
   both e (invert c)
 
--- the goal's edge
-unfoldable pub goal_row : List Term → Term → Row Edge
-goal_row hyps concl = do
+-- The edge that is true exactly for the values that make all hypotheses true and the conclusion false.
+unfoldable pub falsifying_row : List Term → Term → Row Edge
+falsifying_row hyps concl = do
   e ← all_hypotheses hyps
   and_not_conclusion e concl
+
+-- The goal's edge: that of the goal in normal form.
+unfoldable pub goal_row : List Term → Term → Row Edge
+goal_row hyps concl = falsifying_row (map normal hyps) (normal concl)

@@ -1,3 +1,4 @@
 pub mod Circuit
 pub mod Values
 pub mod Fitting
+pub mod Falsified

@@ -1,16 +1,14 @@
-//! A goal's edge: all hypotheses, and not the conclusion.
+//! A goal's edge: all hypotheses, and not the conclusion, of the goal's normal form.
 
-ghost use Rattle.std.specs.Prelude.{◌↔◌, ℕ, Bool, IsTrue, IfOk, OnOk, List, All};
-ghost use Rattle.gate_shape.specs.Edge.{value as value_of};
+ghost use Rattle.std.specs.Prelude.{IfOk, OnOk, All};
 ghost use Rattle.gate_shape.specs.Builds.{Known, edge as edge_of, Builds, OneEach, Stands};
-ghost use Rattle.bv_expr.specs.declared.ops.Val.{Val};
-ghost use Rattle.bv_expr.specs.Goal.{AreValues, Falsifies};
 ghost use Rattle.bv_expr.specs.Sorts.{IsExpr};
-ghost use Rattle.blast_goal.specs.Circuit.{and_hypothesis, all_hypotheses, and_not_conclusion, goal_row};
-ghost use Rattle.blast_goal.specs.Values.{input_bits, values_of};
+ghost use Rattle.blast_goal.specs.Circuit.{and_hypothesis, all_hypotheses, and_not_conclusion, falsifying_row, goal_row};
+ghost use Rattle.blast_goal.specs.Falsified.{IsTrueWhereFalsified, IsTrueWhereBitsFalsify};
 
 use crate::circuits::truth;
 use bv_expr::{Expr, Goal};
+use bv_normal::normal_goal;
 use gate_shape::{Builder, GateStop, Lit23};
 use std::alloc::Global;
 
@@ -57,20 +55,34 @@ fn hypotheses<B: Builder>(alloc: Global, b: &mut B, hyps: &[Expr]) -> Result<Lit
     Ok(e)
 }
 
-/// The goal's edge, which is true exactly for the values that falsify the goal: e is true; for each hypothesis e is
-/// the conjunction of e and its circuit; the edge is the conjunction of e and the negated circuit of the conclusion.
-///
-/// Where it answers Ok, the builder knows each gate of the row, noted in order. `Deep` and `Full` are the answers of the
-/// builder at one of these gates, those before it being known and noted; want of memory may come at any time. Literals
-/// known before keep their edges, and equal edges have equal literals. The clause `read` says that the edge hangs on
-/// the bits of the goal's variables alone, each below its width. Takes a call of the builder for each gate, time by the
-/// number of nodes and of gates, and stack by the depth of the terms, which is 1,000 at most.
-pub fn edge<B: Builder>(alloc: Global, b: &mut B, goal: &Goal) -> Result<Lit23, GateStop>
-    ensures built { Builds B.noted Stands (B.meaning b.old) (B.meaning b.new) result (goal_row goal.now.hyps goal.now.concl) }
+/// The edge of a goal as it stands: e is true; for each hypothesis e is the conjunction of e and its circuit; the edge is
+/// the conjunction of e and the negated circuit of the conclusion.
+fn falsifying<B: Builder>(alloc: Global, b: &mut B, goal: &Goal) -> Result<Lit23, GateStop>
+    ensures built { Builds B.noted Stands (B.meaning b.old) (B.meaning b.new) result (falsifying_row goal.now.hyps goal.now.concl) }
     ensures once { OnOk result (OneEach (B.meaning b.new)) }
-    ensures value { IfOk result (λ l. (values : List Val) → AreValues goal.now.binders values → IsTrue (value_of (input_bits values) (edge_of (B.meaning b.new) l)) ↔ Falsifies goal.now.hyps goal.now.concl values) }
-    ensures read { IfOk result (λ l. (bits : ℕ → ℕ → Bool) → IsTrue (value_of bits (edge_of (B.meaning b.new) l)) ↔ Falsifies goal.now.hyps goal.now.concl (values_of goal.now.binders bits)) }
+    ensures value { IfOk result (λ l. IsTrueWhereFalsified goal.now.binders goal.now.hyps goal.now.concl (edge_of (B.meaning b.new) l)) }
+    ensures read { IfOk result (λ l. IsTrueWhereBitsFalsify goal.now.binders goal.now.hyps goal.now.concl (edge_of (B.meaning b.new) l)) }
 {
     let e = hypotheses(alloc, b, goal.hyps.as_slice())?;
     without_conclusion(alloc, b, e, &goal.concl)
+}
+
+/// The goal's edge, which is true exactly for the values that falsify the goal. The goal is normalised first; then e is
+/// true; for each hypothesis e is the conjunction of e and its circuit; the edge is the conjunction of e and the negated
+/// circuit of the conclusion.
+///
+/// Where it answers Ok, the builder knows each gate of the row, noted in order. `Deep` and `Full` are the answers of the
+/// builder at one of these gates, those before it being known and noted; want of memory may come at any time. Literals
+/// known before keep their edges, and equal edges have equal literals. The clauses `value` and `read` speak of the goal
+/// itself: the edge hangs on the bits of the goal's variables alone, each below its width. Takes the time that
+/// `normal_goal` takes, a call of the builder for each gate, time by the number of nodes and of gates, and stack by the
+/// depth of the terms, which is 1,000 at most.
+pub fn edge<B: Builder>(alloc: Global, b: &mut B, goal: &Goal) -> Result<Lit23, GateStop>
+    ensures built { Builds B.noted Stands (B.meaning b.old) (B.meaning b.new) result (goal_row goal.now.hyps goal.now.concl) }
+    ensures once { OnOk result (OneEach (B.meaning b.new)) }
+    ensures value { IfOk result (λ l. IsTrueWhereFalsified goal.now.binders goal.now.hyps goal.now.concl (edge_of (B.meaning b.new) l)) }
+    ensures read { IfOk result (λ l. IsTrueWhereBitsFalsify goal.now.binders goal.now.hyps goal.now.concl (edge_of (B.meaning b.new) l)) }
+{
+    let normal = normal_goal(alloc, goal)?;
+    falsifying(alloc, b, &normal)
 }

@@ -1,8 +1,7 @@
 -- The test of equality decides equality.
 use Rattle.std.proofs.Common.{◌≡◌, ℕ, Bool, true, false, ◌&&◌, refl, ◌∙◌, ap}
 use Rattle.std.specs.Prelude.{◌==◌, not}
-use Rattle.std.proofs.lemmas.Bool.{eqb-true, eq-eqb}
-use Rattle.bv_value.specs.BitVector.{BitVector}
+use Rattle.std.proofs.lemmas.Bool.{eqb-true}
 use Rattle.bv_value.specs.Bits.{differ}
 use Rattle.bv_expr.specs.declared.ops.Unary.{Unary}
 use Rattle.bv_expr.specs.declared.ops.Unary.TheVariants as of

@@ -1,6 +1,5 @@
 -- Normal forms, computed by the definition.
 use Rattle.std.proofs.Common.{◌≡◌, ℕ, true, refl}
-use Rattle.bv_value.specs.BitVector.{BitVector}
 use Rattle.bv_expr.specs.declared.ops.Unary.TheVariants as of
 use Rattle.bv_expr.specs.declared.ops.Binary.TheVariants as on
 use Rattle.bv_expr.specs.Term.{Term, constant, variable, truth, unary, binary, choice}

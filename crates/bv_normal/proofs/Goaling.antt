@@ -1,5 +1,5 @@
 -- The normal form of a goal is a goal, which the same values falsify.
-use Rattle.std.proofs.Common.{◌≡◌, true, List, [], ◌∷◌, Some, refl, sym, ◌∙◌}
+use Rattle.std.proofs.Common.{◌≡◌, List, [], ◌∷◌, sym, ◌∙◌}
 use Rattle.std.specs.Prelude.{◌↔◌, map, All}
 use Rattle.std.proofs.lemmas.List.Elements.{All-nil, All-cons, All-head, All-tail}
 use Rattle.bv_expr.specs.declared.ops.Sort.{Sort}
@@ -7,11 +7,10 @@ use Rattle.bv_expr.specs.declared.ops.Val.{Val}
 use Rattle.bv_expr.specs.Term.{Term}
 use Rattle.bv_expr.specs.Sorts.{IsExpr}
 use Rattle.bv_expr.specs.Meaning.{meaning}
-use Rattle.bv_expr.specs.Goal.{Binders, IsGoal, IsTruthOver, AreValues, MeansTrue, Falsifies, IsValid, sorts_of}
+use Rattle.bv_expr.specs.Goal.{Binders, IsGoal, IsTruthOver, AreValues, MeansTrue, IsValid, sorts_of}
 use Rattle.bv_expr.proofs.Over.{truth_at}
 use Rattle.bv_normal.specs.Normal.{normal}
 use Rattle.bv_normal.specs.Goals.{FalsifiedAlike}
-use Rattle.bv_normal.proofs.Keeping.{Keeps}
 use Rattle.bv_normal.proofs.Normalising.{normal_keeps, fits_of}
 
 truth_again : (sorts : List Sort) (t : Term) → IsExpr t → IsTruthOver sorts t → IsTruthOver sorts (normal t)

@@ -1,9 +1,9 @@
 -- What tests of constants tell of meanings, and what rules give.
-use Rattle.std.proofs.Common.{◌≡◌, ℕ, zero, suc, ◌+◌, ◌^◌, Bool, true, false, List, [], Option, Some, None, refl, sym, ◌∙◌, ap}
-use Rattle.std.specs.Prelude.{◌==◌, if◌then◌else◌, option_and_then, option_map}
+use Rattle.std.proofs.Common.{◌≡◌, ℕ, zero, suc, ◌+◌, ◌^◌, Bool, true, false, List, [], Option, Some, None, refl}
+use Rattle.std.specs.Prelude.{◌==◌, if◌then◌else◌, option_map}
 use Rattle.std.proofs.lemmas.Bool.{eqb-true}
 use Rattle.bv_expr.specs.declared.ops.Val.{Val}
-use Rattle.bv_expr.specs.Term.{Term, constant, variable, truth, truth_variable, unary, binary, choice, truth_choice}
+use Rattle.bv_expr.specs.Term.{Term, constant, truth}
 use Rattle.bv_expr.specs.Meaning.{vector, meaning}
 use Rattle.bv_normal.specs.Constants.{number, is_number, is_all_ones, is_constant, exponent_to, exponent}
 use Rattle.bv_normal.specs.Fitting.{gives, or_else, beside, the_one}

@@ -1,17 +1,16 @@
 -- Laws of the operators on bit vectors, one or two for each rule.
-use Rattle.std.proofs.Common.{◌≡◌, ℕ, zero, suc, ◌+◌, ◌-◌, ◌*◌, ◌/◌, ◌%◌, ◌^◌, ◌≤◌, ◌<◌, Bool, true, false, ◌&&◌, ◌||◌, List, [], ◌∷◌, refl, sym, ◌∙◌, ap, arith, nat_eq, nat_lt, ℤ, pos, negsuc}
+use Rattle.std.proofs.Common.{◌≡◌, ℕ, zero, suc, ◌+◌, ◌-◌, ◌*◌, ◌/◌, ◌%◌, ◌^◌, ◌≤◌, ◌<◌, Bool, true, false, ◌&&◌, ◌||◌, List, [], ◌∷◌, refl, sym, ◌∙◌, ap, arith, nat_lt, ℤ, pos, negsuc}
 use Rattle.std.specs.Prelude.{◌==◌, nat_le, bit_and, bit_or, bit_xor, int_le, if◌then◌else◌}
 use Rattle.std.specs.Int.Bits.{and_self, or_self, xor_self, and_zero_r, or_zero_r, xor_zero_r}
 use Rattle.std.proofs.lemmas.Grind.{common_steps}
-use Rattle.std.proofs.lemmas.Int.{ints}
 use Rattle.std.proofs.lemmas.Nat.{and_mask, le_or_r, or_lt}
-use Rattle.std.proofs.Math.Nat.{mod-eq_of_lt, mod-lt, mod_self, mod-one, div-one}
-use Rattle.bv_value.specs.BitVector.{BitVector, IsBitVector, modulus, of_number, signed}
+use Rattle.std.proofs.Math.Nat.{mod-eq_of_lt, mod_self, mod-one, div-one}
+use Rattle.bv_value.specs.BitVector.{BitVector, IsBitVector, modulus, of_number}
 use Rattle.bv_value.specs.Bits.{number_of, bits_of, at_each, differ}
 use Rattle.bv_value.specs.Operations as is
 use Rattle.bv_value.proofs.Bits.{and_bits, or_bits, xor_bits}
 use Rattle.bv_value.proofs.Powers.{pow-pos, shifted_up, shifted_out}
-use Rattle.bv_value.proofs.Results.{not_fits, not_not, add_zero}
+use Rattle.bv_value.proofs.Results.{not_fits, not_not}
 use Rattle.bv_value.proofs.Signs.{ashr_low, ashr_high, sign_extend_low, sign_extend_high, slt_is}
 
 -- two vectors of one width and one number

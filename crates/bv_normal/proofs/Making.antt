@@ -1,9 +1,7 @@
 -- Which nodes are terms.
-use Rattle.std.proofs.Common.{◌≡◌, ℕ, ◌≤◌, ◌<◌, Bool, true, false, List, [], Some, None, refl, sym, ◌∙◌, arith}
+use Rattle.std.proofs.Common.{◌≡◌, ℕ, ◌≤◌, Bool, true, false, [], Some, None, refl, sym, ◌∙◌, arith}
 use Rattle.std.specs.Prelude.{◌&&◌, if◌then◌else◌}
-use Rattle.std.specs.Prelude.{IsSome}
 use Rattle.bv_value.specs.BitVector.{BitVector, IsBitVector}
-use Rattle.bv_expr.specs.declared.ops.Sort.TheVariants as sort
 use Rattle.bv_expr.specs.declared.ops.Unary.{Unary}
 use Rattle.bv_expr.specs.declared.ops.Binary.{Binary}
 use Rattle.bv_expr.specs.declared.ops.Binary.TheVariants as on

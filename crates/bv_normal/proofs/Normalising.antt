@@ -1,19 +1,18 @@
 -- The normal form keeps sort, depth and meaning.
-use Rattle.std.proofs.Common.{◌≡◌, ℕ, ◌+◌, ◌≤◌, max, Bool, true, false, List, [], ◌∷◌, Option, Some, None, refl, sym, ◌∙◌, ap, arith, subst}
-use Rattle.std.specs.Prelude.{IsSome, if◌then◌else◌, option_and_then, All}
+use Rattle.std.proofs.Common.{◌≡◌, ◌≤◌, Bool, true, false, List, [], ◌∷◌, Option, Some, None, refl, ◌∙◌, ap, arith}
+use Rattle.std.specs.Prelude.{IsSome, if◌then◌else◌, option_and_then}
 use Rattle.bv_expr.specs.declared.ops.Unary.{Unary}
 use Rattle.bv_expr.specs.declared.ops.Binary.{Binary}
 use Rattle.bv_expr.specs.declared.ops.Sort.{Sort}
 use Rattle.bv_expr.specs.declared.ops.Val.{Val}
 use Rattle.bv_expr.specs.Term.{Term, constant, variable, truth, truth_variable, unary, binary, choice, truth_choice, depth}
-use Rattle.bv_expr.specs.Sorts.{sort_of, IsExpr, LeavesFit, unary_sort, binary_sort, choice_sort, truth_choice_sort}
-use Rattle.bv_expr.specs.Meaning.{is_true, unary_value, binary_value, meaning, HasValues}
-use Rattle.bv_expr.specs.Goal.{IsValue, variables}
-use Rattle.bv_normal.specs.Fitting.{Rule, or_else, first_fit}
+use Rattle.bv_expr.specs.Sorts.{sort_of, IsExpr, LeavesFit, unary_sort, choice_sort, truth_choice_sort}
+use Rattle.bv_expr.specs.Meaning.{is_true, unary_value, binary_value, meaning}
+use Rattle.bv_normal.specs.Fitting.{Rule, first_fit}
 use Rattle.bv_normal.specs.Normal.{rules, or_itself, rewritten, normal, MeansTheSame}
 use Rattle.bv_normal.specs.Parts.{choice_of}
 use Rattle.bv_normal.proofs.Sorting.{unary_part, binary_left, binary_right, three_first, three_second, three_third}
-use Rattle.bv_normal.proofs.Keeping.{Keeps, Fits, Safe, Over, keeps_itself, after, over_left, over_right, over_binary, over_three, over_choice}
+use Rattle.bv_normal.proofs.Keeping.{Keeps, Fits, Safe, keeps_itself, after, over_left, over_right, over_binary, over_three, over_choice}
 use Rattle.bv_normal.proofs.Knowing.{either_cases}
 use Rattle.bv_normal.proofs.SafeFolding.{constant_parts_safe, undone_safe}
 use Rattle.bv_normal.proofs.SafeOperands.{equal_cancelled_safe, zero_dropped_safe, zero_kept_safe, one_dropped_safe, ones_kept_safe, equal_joined_safe}

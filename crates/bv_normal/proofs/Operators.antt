@@ -1,6 +1,6 @@
 -- Operators by what they take and give, and what follows for a rule whose law on values is known.
-use Rattle.std.proofs.Common.{◌≡◌, ℕ, ◌≤◌, Bool, true, false, List, [], ◌∷◌, Option, Some, None, refl, sym, ◌∙◌, ap, arith}
-use Rattle.std.specs.Prelude.{◌==◌, IsSome, if◌then◌else◌, option_and_then, All}
+use Rattle.std.proofs.Common.{◌≡◌, ℕ, Bool, true, false, List, Option, Some, None, refl, sym, ◌∙◌, ap}
+use Rattle.std.specs.Prelude.{◌==◌, IsSome, if◌then◌else◌, option_and_then}
 use Rattle.bv_value.specs.BitVector.{BitVector, IsBitVector, of_number}
 use Rattle.bv_value.specs.Operations as is
 use Rattle.bv_expr.specs.declared.ops.Unary.{Unary}
@@ -11,10 +11,9 @@ use Rattle.bv_expr.specs.declared.ops.Sort.{Sort}
 use Rattle.bv_expr.specs.declared.ops.Sort.TheVariants as sort
 use Rattle.bv_expr.specs.declared.ops.Val.{Val}
 use Rattle.bv_expr.specs.declared.ops.Val.TheVariants.{Truth, Vector}
-use Rattle.bv_expr.specs.Term.{Term, constant, variable, truth, truth_variable, unary, binary, choice, truth_choice}
+use Rattle.bv_expr.specs.Term.{Term, constant, truth, unary, binary}
 use Rattle.bv_expr.specs.Sorts.{where_equal, unary_sort, binary_sort, sort_of, LeavesFit}
-use Rattle.bv_expr.specs.Meaning.{vector, is_true, unary_value, binary_value, meaning, HasValues}
-use Rattle.bv_expr.specs.Goal.{IsValue}
+use Rattle.bv_expr.specs.Meaning.{vector, unary_value, binary_value, meaning}
 use Rattle.bv_expr.proofs.Sorted.{equal_some}
 use Rattle.bv_normal.specs.Constants.{number_like}
 use Rattle.bv_normal.proofs.Laws.{number_itself}

@@ -1,19 +1,18 @@
 -- The rule on decided choices keeps sort, depth and meaning.
-use Rattle.std.proofs.Common.{◌≡◌, ℕ, Bool, true, false, Option, Some, None, refl, sym, ◌∙◌, ap}
+use Rattle.std.proofs.Common.{◌≡◌, Bool, true, false, Option, Some, None, refl, sym, ap}
 use Rattle.std.specs.Prelude.{IsSome, if◌then◌else◌, option_and_then}
 use Rattle.bv_expr.specs.declared.ops.Sort.{Sort}
 use Rattle.bv_expr.specs.declared.ops.Sort.TheVariants as sort
 use Rattle.bv_expr.specs.declared.ops.Val.{Val}
-use Rattle.bv_expr.specs.Term.{Term, constant, variable, truth, truth_variable, unary, binary, choice, truth_choice}
-use Rattle.bv_expr.specs.Sorts.{sort_of, choice_sort, truth_choice_sort, where_equal}
+use Rattle.bv_expr.specs.Term.{Term, truth, choice, truth_choice}
+use Rattle.bv_expr.specs.Sorts.{sort_of, choice_sort, truth_choice_sort}
 use Rattle.bv_expr.specs.Meaning.{is_true, meaning}
 use Rattle.bv_expr.proofs.Sorted.{equal_some, equal_second}
 use Rattle.bv_normal.specs.Same.{same}
-use Rattle.bv_normal.specs.Fitting.{gives}
 use Rattle.bv_normal.specs.Choices.{chosen, decided_choice}
 use Rattle.bv_normal.proofs.Equality.{same_is}
 use Rattle.bv_normal.proofs.Knowing.{given}
-use Rattle.bv_normal.proofs.Keeping.{Keeps, Fits, Safe, keeps_first, keeps_second, keeps_truth_first, keeps_truth_second}
+use Rattle.bv_normal.proofs.Keeping.{Keeps, Safe, keeps_first, keeps_second, keeps_truth_first, keeps_truth_second}
 
 -- both branches have the sort of the choice
 branches : (o p q : Option Sort) → IsSome (option_and_then (λ r. option_and_then (λ s. option_and_then (choice_sort r s) q) p) o)

@@ -1,5 +1,5 @@
 -- The rules on comparisons of equal parts keep sort, depth and meaning.
-use Rattle.std.proofs.Common.{◌≡◌, ℕ, Bool, true, false, not, Option, Some, None, refl, sym, ◌∙◌, ap}
+use Rattle.std.proofs.Common.{◌≡◌, Bool, true, false, not, Option, Some, None, refl, ◌∙◌, ap}
 use Rattle.std.specs.Prelude.{IsSome, option_and_then}
 use Rattle.bv_value.specs.BitVector.{BitVector, IsBitVector, signed}
 use Rattle.bv_value.specs.Bits.{differ}

@@ -2,8 +2,6 @@
 use Rattle.std.proofs.Common.{◌≡◌, ℕ, Bool, true, false, not, List, [], Option, Some, None, refl, sym, ◌∙◌, ap}
 use Rattle.std.specs.Prelude.{IsSome, ◌&&◌, if◌then◌else◌, option_and_then, All}
 use Rattle.std.proofs.lemmas.List.Elements.{All-nil}
-use Rattle.bv_value.specs.BitVector.{BitVector, IsBitVector}
-use Rattle.bv_value.specs.Operations as is
 use Rattle.bv_value.proofs.Results.{not_not}
 use Rattle.bv_expr.specs.declared.ops.Unary.{Unary}
 use Rattle.bv_expr.specs.declared.ops.Unary.TheVariants as of
@@ -11,19 +9,19 @@ use Rattle.bv_expr.specs.declared.ops.Sort.{Sort}
 use Rattle.bv_expr.specs.declared.ops.Sort.TheVariants as sort
 use Rattle.bv_expr.specs.declared.ops.Val.{Val}
 use Rattle.bv_expr.specs.declared.ops.Val.TheVariants.{Truth, Vector}
-use Rattle.bv_expr.specs.Term.{Term, constant, variable, truth, truth_variable, unary, binary, choice, truth_choice}
+use Rattle.bv_expr.specs.Term.{Term, constant, truth, unary, binary, choice, truth_choice}
 use Rattle.bv_expr.specs.Sorts.{sort_of, unary_sort}
 use Rattle.bv_expr.specs.Meaning.{sort_of_value, vector, is_true, unary_value, binary_value, meaning, HasValues}
-use Rattle.bv_expr.specs.Goal.{IsValue, IsTruthAt}
+use Rattle.bv_expr.specs.Goal.{IsValue}
 use Rattle.bv_expr.proofs.Sorted.{meaning_sorted}
 use Rattle.bv_expr.proofs.Over.{means_truth}
 use Rattle.bv_normal.specs.Constants.{literal, is_constant}
-use Rattle.bv_normal.specs.Folding.{has_constant_parts, constant_parts, cancels, undone}
+use Rattle.bv_normal.specs.Folding.{has_constant_parts, constant_parts, undone}
 use Rattle.bv_normal.proofs.Laws.{neg_neg}
 use Rattle.bv_normal.proofs.Equality.{both}
 use Rattle.bv_normal.proofs.Sorting.{meaning_fits, word_of}
-use Rattle.bv_normal.proofs.Knowing.{given, constant_means}
-use Rattle.bv_normal.proofs.Keeping.{Keeps, Fits, Safe, keeps_truth, keeps_vector, keeps_inner}
+use Rattle.bv_normal.proofs.Knowing.{given}
+use Rattle.bv_normal.proofs.Keeping.{Keeps, Safe, keeps_truth, keeps_vector, keeps_inner}
 
 -- a term that means the same at all values, and needs none
 pub record Closed (t : Term) : Type 0 where

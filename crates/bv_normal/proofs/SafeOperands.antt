@@ -1,7 +1,6 @@
 -- The rules on operands that are 0, 1, all ones, or equal keep sort, depth and meaning.
-use Rattle.std.proofs.Common.{◌≡◌, ℕ, true, List, Some, refl, sym, ◌∙◌, ap}
+use Rattle.std.proofs.Common.{◌≡◌, true, List, Some, sym, ◌∙◌, ap}
 use Rattle.bv_value.specs.BitVector.{BitVector, IsBitVector, of_number}
-use Rattle.bv_value.specs.Operations as is
 use Rattle.bv_value.proofs.Results.{add_zero}
 use Rattle.bv_expr.specs.declared.ops.Binary.{Binary}
 use Rattle.bv_expr.specs.declared.ops.Binary.TheVariants as on
@@ -16,7 +15,7 @@ use Rattle.bv_normal.proofs.Equality.{same_is}
 use Rattle.bv_normal.proofs.Laws as law
 use Rattle.bv_normal.proofs.Knowing.{number_known, ones_known, given, beside_cases, one_cases}
 use Rattle.bv_normal.proofs.Keeping.{Keeps, Fits, Safe}
-use Rattle.bv_normal.proofs.Operators.{word, VectorOp, Law, left_by, right_by, number_by, add, sub, mul, conjunction, disjunction, exclusive}
+use Rattle.bv_normal.proofs.Operators.{word, VectorOp, left_by, right_by, number_by, add, sub, mul, conjunction, disjunction, exclusive}
 
 -- the meanings of equal parts
 pub meaning_same : (x y : Term) (values : List Val) → same x y ≡ true → vector (meaning y values) ≡ vector (meaning x values)

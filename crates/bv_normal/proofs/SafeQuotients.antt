@@ -1,15 +1,13 @@
 -- The rules on products, quotients and remainders keep sort, depth and meaning.
-use Rattle.std.proofs.Common.{◌≡◌, ℕ, ◌-◌, ◌^◌, Some, refl, sym, ◌∙◌, ap}
-use Rattle.std.specs.Prelude.{option_map}
+use Rattle.std.proofs.Common.{◌-◌, ◌^◌, ◌∙◌}
 use Rattle.bv_expr.specs.declared.ops.Unary.TheVariants as of
-use Rattle.bv_expr.specs.declared.ops.Binary.{Binary}
 use Rattle.bv_expr.specs.declared.ops.Binary.TheVariants as on
-use Rattle.bv_expr.specs.Term.{Term, unary, binary}
+use Rattle.bv_expr.specs.Term.{unary, binary}
 use Rattle.bv_normal.specs.Constants.{is_number, number_like, exponent}
 use Rattle.bv_normal.specs.Quotients.{shifted, product_by_power, division_by_zero, division_by_one, division_by_power}
 use Rattle.bv_normal.proofs.Laws as law
 use Rattle.bv_normal.proofs.Knowing.{number_known, power_known, given, mapped, either_cases}
-use Rattle.bv_normal.proofs.Keeping.{Keeps, Fits, Safe}
+use Rattle.bv_normal.proofs.Keeping.{Keeps, Safe}
 use Rattle.bv_normal.proofs.Operators.{word, left_by, number_by, of_left_by, of_right_by, masked_by, mul, quotient, remainder, shl_by, lshr_by}
 
 pub product_by_power_safe : Safe product_by_power

@@ -1,5 +1,5 @@
 -- Choices that are decided.
-use Rattle.std.specs.Prelude.{true, false, List, [], ◌∷◌, Option, Some, None}
+use Rattle.std.specs.Prelude.{true, false, Option, Some, None}
 use Rattle.bv_expr.specs.Term.{Term, truth, choice, truth_choice}
 use Rattle.bv_normal.specs.Same.{same}
 use Rattle.bv_normal.specs.Fitting.{Rule, gives}

@@ -1,8 +1,7 @@
 -- Comparisons of equal parts.
 use Rattle.std.specs.Prelude.{true, false, List, [], ◌∷◌, None}
-use Rattle.bv_expr.specs.declared.ops.Binary.{Binary}
 use Rattle.bv_expr.specs.declared.ops.Binary.TheVariants as on
-use Rattle.bv_expr.specs.Term.{Term, binary, truth}
+use Rattle.bv_expr.specs.Term.{binary, truth}
 use Rattle.bv_normal.specs.Same.{same}
 use Rattle.bv_normal.specs.Fitting.{Rule, gives}
 

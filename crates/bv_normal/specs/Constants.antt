@@ -5,7 +5,7 @@ use Rattle.bv_expr.specs.declared.ops.Val.{Val}
 use Rattle.bv_expr.specs.declared.ops.Val.TheVariants.{Truth, Vector}
 use Rattle.bv_expr.specs.declared.ops.Sort.{Sort}
 use Rattle.bv_expr.specs.declared.ops.Sort.TheVariants as sort
-use Rattle.bv_expr.specs.Term.{Term, constant, variable, truth, truth_variable, unary, binary, choice, truth_choice}
+use Rattle.bv_expr.specs.Term.{Term, constant, truth}
 use Rattle.bv_expr.specs.Sorts.{sort_of}
 
 -- The constant of a value.

@@ -1,8 +1,8 @@
 -- Constant parts, and operators that undo each other.
-use Rattle.std.specs.Prelude.{Bool, true, false, ◌&&◌, List, [], ◌∷◌, Option, None}
+use Rattle.std.specs.Prelude.{Bool, true, false, ◌&&◌, [], None}
 use Rattle.bv_expr.specs.declared.ops.Unary.{Unary}
 use Rattle.bv_expr.specs.declared.ops.Unary.TheVariants as of
-use Rattle.bv_expr.specs.Term.{Term, constant, variable, truth, truth_variable, unary, binary, choice, truth_choice}
+use Rattle.bv_expr.specs.Term.{Term, unary, binary, choice, truth_choice}
 use Rattle.bv_expr.specs.Meaning.{meaning}
 use Rattle.bv_normal.specs.Constants.{literal, is_constant}
 use Rattle.bv_normal.specs.Fitting.{Rule, gives}

@@ -1,8 +1,7 @@
 -- The normal form: parts first, left to right, then the first rule that fits, once at each node.
-use Rattle.std.specs.Prelude.{◌≡◌, ℕ, List, [], ◌∷◌, Option, Some, None, All}
+use Rattle.std.specs.Prelude.{◌≡◌, List, [], ◌∷◌, Option, Some, None, All}
 use Rattle.bv_expr.specs.declared.ops.Val.{Val}
-use Rattle.bv_expr.specs.Term.{Term, constant, variable, truth, truth_variable, unary, binary, choice, truth_choice, depth}
-use Rattle.bv_expr.specs.Sorts.{sort_of}
+use Rattle.bv_expr.specs.Term.{Term, constant, variable, truth, truth_variable, unary, binary, choice, truth_choice}
 use Rattle.bv_expr.specs.Meaning.{meaning, HasValues}
 use Rattle.bv_expr.specs.Goal.{IsValue}
 use Rattle.bv_normal.specs.Fitting.{Rule, first_fit}

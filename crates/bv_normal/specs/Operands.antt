@@ -1,8 +1,7 @@
 -- Operands that are 0, 1, all ones, or equal.
 use Rattle.std.specs.Prelude.{List, [], ◌∷◌, None}
-use Rattle.bv_expr.specs.declared.ops.Binary.{Binary}
 use Rattle.bv_expr.specs.declared.ops.Binary.TheVariants as on
-use Rattle.bv_expr.specs.Term.{Term, binary}
+use Rattle.bv_expr.specs.Term.{binary}
 use Rattle.bv_normal.specs.Same.{same}
 use Rattle.bv_normal.specs.Constants.{is_number, is_all_ones, number_like}
 use Rattle.bv_normal.specs.Fitting.{Rule, gives, beside, the_one}

@@ -1,8 +1,6 @@
 -- Products, quotients and remainders by 0, 1 and powers of two.
 use Rattle.std.specs.Prelude.{◌-◌, ◌^◌, List, [], ◌∷◌, Option, None, option_map}
-use Rattle.bv_expr.specs.declared.ops.Unary.{Unary}
 use Rattle.bv_expr.specs.declared.ops.Unary.TheVariants as of
-use Rattle.bv_expr.specs.declared.ops.Binary.{Binary}
 use Rattle.bv_expr.specs.declared.ops.Binary.TheVariants as on
 use Rattle.bv_expr.specs.Term.{Term, unary, binary}
 use Rattle.bv_normal.specs.Constants.{is_number, number_like, exponent}

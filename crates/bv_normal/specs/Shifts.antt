@@ -1,10 +1,8 @@
 -- Shifts and rotations.
 use Rattle.std.specs.Prelude.{◌%◌, ◌==◌, nat_le, None, option_map}
-use Rattle.bv_expr.specs.declared.ops.Unary.{Unary}
 use Rattle.bv_expr.specs.declared.ops.Unary.TheVariants as of
-use Rattle.bv_expr.specs.declared.ops.Binary.{Binary}
 use Rattle.bv_expr.specs.declared.ops.Binary.TheVariants as on
-use Rattle.bv_expr.specs.Term.{Term, unary, binary}
+use Rattle.bv_expr.specs.Term.{unary, binary}
 use Rattle.bv_normal.specs.Constants.{number, width, number_like}
 use Rattle.bv_normal.specs.Fitting.{Rule, gives}
 

@@ -1,8 +1,7 @@
 -- Changes of width that change nothing.
 use Rattle.std.specs.Prelude.{◌==◌, ◌&&◌, None}
-use Rattle.bv_expr.specs.declared.ops.Unary.{Unary}
 use Rattle.bv_expr.specs.declared.ops.Unary.TheVariants as of
-use Rattle.bv_expr.specs.Term.{Term, unary}
+use Rattle.bv_expr.specs.Term.{unary}
 use Rattle.bv_normal.specs.Constants.{width}
 use Rattle.bv_normal.specs.Fitting.{Rule, gives}
 

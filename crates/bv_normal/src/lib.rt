@@ -16,6 +16,8 @@ mod same_terms;
 mod shifts;
 mod steps;
 mod terms;
+#[cfg(test)]
+mod tests;
 mod widths;
 
 pub use goals::normal_goal;

@@ -2,7 +2,6 @@ pub mod Ended
 pub mod Counting
 pub mod Asking
 mod Once
-pub mod Reading
 pub mod Satisfied
 mod Rows
 pub mod Turns
@@ -11,3 +10,4 @@ pub mod Sifting
 pub mod Texts
 pub mod Ending
 pub mod Telling
+pub mod Example

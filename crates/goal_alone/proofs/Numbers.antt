@@ -11,7 +11,7 @@ use Rattle.bv_expr.specs.declared.ops.Sort.TheVariants as sort
 use Rattle.bv_expr.specs.declared.ops.Val.TheVariants.{Truth, Vector}
 use Rattle.bv_expr.specs.Goal.{Binders, is_sort}
 use Rattle.blast_goal.specs.Values.{value_with, values_from, values_of}
-use Rattle.goal_alone.proofs.Reading.{bits_below}
+use Rattle.blast_goal.proofs.Reading.{bits_below}
 
 -- the bits from one on, up to the width
 abbrev pub upper : (ℕ → Bool) → ℕ → ℕ → ℕ

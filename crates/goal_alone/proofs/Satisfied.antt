@@ -1,5 +1,5 @@
 -- The clauses of a goal are satisfiable exactly where some values falsify it.
-use Rattle.std.proofs.Common.{◌≡◌, ℕ, Bool, true, List, IsTrue}
+use Rattle.std.proofs.Common.{◌≡◌, ℕ, Bool, true, List}
 use Rattle.std.specs.Prelude.{◌↔◌}
 use Rattle.gate_shape.specs.Edge.{value}
 use Rattle.sat_form.specs.Literals.{Literal}
@@ -7,18 +7,19 @@ use Rattle.sat_form.specs.Truth.{satisfies}
 use Rattle.bv_expr.specs.declared.ops.Val.{Val}
 use Rattle.bv_expr.specs.Term.{Term}
 use Rattle.bv_expr.specs.Goal.{Binders, AreValues, IsGoal, Falsifies}
-use Rattle.blast_goal.specs.Values.{input_bits, values_of}
+use Rattle.blast_goal.specs.Values.{input_bits}
+use Rattle.blast_goal.specs.Falsified.{IsTrueWhereFalsified, IsTrueWhereBitsFalsify}
 use Rattle.tseitin.specs.Clauses.{node_values}
 use Rattle.tseitin.proofs.Law.{satisfiable_exactly}
 use Rattle.goal_alone.specs.Formula.{goal_edge, goal_clauses}
 use Rattle.goal_alone.specs.Satisfying.{IsSatisfiable, IsFalsifiable, IsRefutation, cone_bits}
 use Rattle.goal_alone.proofs.Once.{cone_extends}
-use Rattle.goal_alone.proofs.Reading.{are_values}
+use Rattle.blast_goal.proofs.Reading.{are_values}
 
 -- the goal's edge is true exactly for the values that falsify the goal, and so for those that are read off any bits
 pub record IsEdgeOf (binders : Binders) (hyps : List Term) (concl : Term) : Type 0 where
-  pub of_values : (values : List Val) → AreValues binders values → IsTrue (value (input_bits values) (goal_edge hyps concl)) ↔ Falsifies hyps concl values
-  pub of_bits : (bits : ℕ → ℕ → Bool) → IsTrue (value bits (goal_edge hyps concl)) ↔ Falsifies hyps concl (values_of binders bits)
+  pub of_values : IsTrueWhereFalsified binders hyps concl (goal_edge hyps concl)
+  pub of_bits : IsTrueWhereBitsFalsify binders hyps concl (goal_edge hyps concl)
 
 module _ (binders : Binders) (hyps : List Term) (concl : Term) (goal : IsGoal binders hyps concl) (edge : IsEdgeOf binders hyps concl) where
   -- values that satisfy the clauses give values that falsify the goal

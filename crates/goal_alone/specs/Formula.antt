@@ -11,7 +11,7 @@ use Rattle.goal_alone.specs.Ends.{End, end_of}
 abbrev pub most_gates : ℕ
 most_gates = 4000000
 
--- the goal's edge, which is true exactly for the values that falsify the goal
+-- the goal's edge, made of its normal form, which is true exactly for the values that falsify the goal
 abbrev pub goal_edge : List Term → Term → Edge
 goal_edge hyps concl = (goal_row hyps concl).answer
 

@@ -1,9 +1,6 @@
 //! A goal's clauses. A goal whose circuit is too deep or too large has none, and is told so.
-ghost use Rattle.std.specs.Prelude.{◌≡◌, ◌↔◌, ℕ, Bool, List, true, IfOk, OnOk, IsErrOf, IsTrue};
-ghost use Rattle.bv_expr.specs.declared.ops.Val.{Val};
-ghost use Rattle.bv_expr.specs.Goal.{AreValues, Falsifies};
-ghost use Rattle.gate_shape.specs.Edge.{value};
-ghost use Rattle.blast_goal.specs.Values.{input_bits, values_of};
+ghost use Rattle.std.specs.Prelude.{◌≡◌, ◌↔◌, ℕ, Bool, true, IfOk, OnOk, IsErrOf};
+ghost use Rattle.blast_goal.specs.Falsified.{IsTrueWhereFalsified, IsTrueWhereBitsFalsify};
 ghost use Rattle.tseitin.specs.Clauses.{AreConeOf};
 ghost use Rattle.goal_alone.specs.Ends.{Made, TooDeep, TooMany};
 ghost use Rattle.gate_shape.specs.Builds.{OneEach, Stands};
@@ -65,15 +62,15 @@ fn stop_of(stop: GateStop) -> FormulaStop
     }
 }
 
-/// The gates of a goal and its edge, over a list of their own.
+/// The gates of a goal's normal form and its edge, over a list of their own.
 fn circuit(alloc: Global, goal: &Goal) -> Result<(ListBuilder, Lit23), FormulaStop>
     ensures made { OnOk result (goal_end goal.now.hyps goal.now.concl ≡ Made) }
     ensures deep { IsErrOf result FormulaStop.Deep → goal_end goal.now.hyps goal.now.concl ≡ TooDeep }
     ensures large { IsErrOf result FormulaStop.Large → goal_end goal.now.hyps goal.now.concl ≡ TooMany }
     ensures stands { IfOk result (λ r. Stands (listed r.0) r.1 (goal_edge goal.now.hyps goal.now.concl)) }
     ensures once { IfOk result (λ r. OneEach (listed r.0)) }
-    ensures of_values { OnOk result ((values : List Val) → AreValues goal.now.binders values → IsTrue (value (input_bits values) (goal_edge goal.now.hyps goal.now.concl)) ↔ Falsifies goal.now.hyps goal.now.concl values) }
-    ensures of_bits { OnOk result ((bits : ℕ → ℕ → Bool) → IsTrue (value bits (goal_edge goal.now.hyps goal.now.concl)) ↔ Falsifies goal.now.hyps goal.now.concl (values_of goal.now.binders bits)) }
+    ensures of_values { OnOk result (IsTrueWhereFalsified goal.now.binders goal.now.hyps goal.now.concl (goal_edge goal.now.hyps goal.now.concl)) }
+    ensures of_bits { OnOk result (IsTrueWhereBitsFalsify goal.now.binders goal.now.hyps goal.now.concl (goal_edge goal.now.hyps goal.now.concl)) }
 {
     let mut gates = ListBuilder::new(alloc, MOST_GATES);
     let end = edge(alloc, &mut gates, goal);
@@ -84,9 +81,9 @@ fn circuit(alloc: Global, goal: &Goal) -> Result<(ListBuilder, Lit23), FormulaSt
     }
 }
 
-/// The cone of a goal's edge and its clauses. The edge is true exactly for the values that falsify the goal, and the
-/// clauses are satisfiable exactly where there are such values: values that satisfy them give values that falsify the
-/// goal, read off the variables of the cone's inputs.
+/// The cone of a goal's edge and its clauses. The edge is that of the goal's normal form, and true exactly for the values
+/// that falsify the goal itself. The clauses are satisfiable exactly where there are such values: values that satisfy them
+/// give values of the goal's own variables that falsify it, read off the variables of the cone's inputs.
 ///
 /// `Deep` comes exactly where the first gate that can't be made would have the level 262,144, `Large` exactly where it
 /// would be the 4,000,001st different one. Both yield to want of memory.

@@ -1,4 +1,4 @@
-use Rattle.std.proofs.Common.{◌≡◌, ◌∙◌}
+use Rattle.std.proofs.Common.{◌∙◌}
 use Rattle.bv_normal.proofs.Normalising.{unary_ready, binary_ready, choice_of_ready}
 use Rattle.bv_normal.proofs.terms.+normalised.Goals as goal
 
