@@ -2,12 +2,14 @@
 #![tactic(auto)]
 
 mod faults;
+mod goals;
 mod item;
 mod judging;
 mod kind;
 mod method;
 mod methods;
 mod misfit;
+mod names;
 mod note;
 mod rows;
 mod sorts;
@@ -16,6 +18,7 @@ mod telling;
 mod variables;
 mod verdicts;
 
+pub use goals::find_misfit;
 pub use kind::{Kind, Row};
 pub use method::{Method, Numbered};
 pub use misfit::Misfit;
