@@ -1,5 +1,5 @@
 -- What a form's own row says by the kinds and depths of its parts.
-use Rattle.std.proofs.Common.{◌≡◌, ℕ, suc, ◌+◌, max, List, [], ◌∷◌, Option, Some, None, refl, sym, ap, arith, ◌∙◌, subst}
+use Rattle.std.proofs.Common.{◌≡◌, ℕ, ◌+◌, max, List, [], ◌∷◌, Option, Some, None, refl, sym, ap, ◌∙◌, subst}
 use Rattle.std.specs.Prelude.{option_map, option_and_then}
 use Rattle.bv_grammar.specs.declared.words.Word.{Word}
 use Rattle.bv_expr.specs.declared.ops.Sort.{Sort}

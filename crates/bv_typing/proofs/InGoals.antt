@@ -1,7 +1,6 @@
 -- The faults of a file, goal by goal.
-use Rattle.std.proofs.Common.{◌≡◌, ℕ, zero, suc, ◌+◌, ◌-◌, ◌<◌, ◌≤◌, List, [], ◌∷◌, ◌++◌, length, take, drop, Option, Some, None, refl, sym, ap, arith, ◌∙◌, append_assoc, append-nil, length-drop, Bool, true, false}
+use Rattle.std.proofs.Common.{◌≡◌, ℕ, zero, suc, ◌+◌, ◌-◌, ◌<◌, List, [], ◌∷◌, ◌++◌, length, take, drop, Option, None, refl, sym, ap, arith, ◌∙◌, append_assoc, append-nil, length-drop, Bool, true, false}
 use Rattle.std.specs.Prelude.{map, flat_map, if◌then◌else◌}
-use Rattle.std.specs.List.{range_with_len}
 use Rattle.bv_expr.specs.declared.ops.Sort.{Sort}
 use Rattle.bv_trees.specs.declared.pieces.Piece.{Piece}
 use Rattle.bv_trees.specs.declared.pieces.Piece.TheVariants as piece
@@ -11,7 +10,7 @@ use Rattle.bv_trees.specs.Codes.{pieces, arguments, binder_pieces, goal_pieces}
 use Rattle.bv_typing.specs.declared.misfit.Misfit.{Misfit}
 use Rattle.bv_typing.specs.declared.variables.Binding.{Binding}
 use Rattle.bv_typing.specs.Source.{Source}
-use Rattle.bv_typing.specs.Variables.{Bound, bounds, all_bounds, named, placed, piece_bindings, sort_at}
+use Rattle.bv_typing.specs.Variables.{bounds, all_bounds, named, placed, piece_bindings, sort_at}
 use Rattle.bv_typing.specs.Readings.{Env}
 use Rattle.bv_typing.specs.Goals.{hypotheses, terms_of, env_of, misfits, truth_misfits, bound_misfits, goal_misfits, file_misfits, least}
 use Rattle.bv_typing.specs.Earliest.{also}
@@ -19,7 +18,7 @@ use Rattle.bv_typing.specs.Notes.{notes, binder_notes}
 use Rattle.bv_typing.specs.Judging as spec
 use Rattle.bv_typing.specs.Judging.{Judging, judge_all, start, least_of, env_at}
 use Rattle.bv_typing.specs.Faults.{is_end, goal_end, bindings_in, goal_misfit}
-use Rattle.bv_typing.proofs.Least.{also_none, also_assoc, least-append, least_behind}
+use Rattle.bv_typing.proofs.Least.{also_none, least-append, least_behind}
 use Rattle.bv_typing.proofs.Judged.{part, terms_parts, found, found_twice, pieces_split, tree_judged, binders_judged, least_found}
 
 -- ---- the pieces of terms
@@ -65,6 +64,7 @@ end_behind (p ∷ ps) qs (one h hs) = one_more p h (end_behind ps qs hs)
   where
     next : (m n k : ℕ) → m ≡ n + k → suc m ≡ suc n + k
     next m n k e = omega (arith, e)
+
     one_more : (p : Piece) → IsInner p → goal_end (ps ++ qs) ≡ length ps + goal_end qs → goal_end (p ∷ (ps ++ qs)) ≡ suc (length ps) + goal_end qs
     one_more (piece.Name i) h e = next _ (length ps) (goal_end qs) e
     one_more (piece.Numeral i) h e = next _ (length ps) (goal_end qs) e
@@ -126,6 +126,7 @@ binders_end (hypothesis x ∷ bs) qs =
   where
     sums : (m a b c k : ℕ) → m ≡ b + c → k ≡ a + b → a + m ≡ k + c
     sums m a b c k e f = omega (arith, e, f)
+
     length_both : (xs ys : List Piece) → length (xs ++ ys) ≡ length xs + length ys
     length_both [] ys = omega arith
     length_both (x ∷ xs) ys = omega (arith, length_both xs ys)

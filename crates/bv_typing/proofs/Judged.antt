@@ -2,7 +2,6 @@
 use Rattle.std.proofs.Common.{◌≡◌, ℕ, suc, ◌+◌, max, List, [], ◌∷◌, ◌++◌, Option, Some, None, refl, sym, ap, arith, ◌∙◌, append_assoc, append-nil}
 use Rattle.std.specs.Prelude.{option_map, option_and_then, map, flat_map}
 use Rattle.bv_grammar.specs.declared.words.Word.{Word}
-use Rattle.bv_expr.specs.declared.ops.Sort.{Sort}
 use Rattle.bv_expr.specs.declared.ops.Sort.TheVariants.{Truth}
 use Rattle.bv_expr.specs.Sorts.{vectors}
 use Rattle.bv_limits.specs.Depths.{depth, depths}
@@ -16,7 +15,6 @@ use Rattle.bv_typing.specs.declared.kind.Kind.TheVariants as kind
 use Rattle.bv_typing.specs.declared.kind.Row.{Row}
 use Rattle.bv_typing.specs.declared.kind.Row.TheVariants as row
 use Rattle.bv_typing.specs.declared.method.Method.{Method}
-use Rattle.bv_typing.specs.declared.methods.Arguments.{Arguments}
 use Rattle.bv_typing.specs.declared.misfit.Misfit.{Misfit}
 use Rattle.bv_typing.specs.declared.note.Note.{Note}
 use Rattle.bv_typing.specs.declared.verdicts.Typed.{Typed}
@@ -28,8 +26,7 @@ use Rattle.bv_typing.specs.declared.judging.Slot.TheVariants as slot
 use Rattle.bv_typing.specs.Source.{number_at}
 use Rattle.bv_typing.specs.Rows.{sorted}
 use Rattle.bv_typing.specs.Variables.{sort_at}
-use Rattle.bv_typing.specs.Readings.{Env, judged, kinds, kind_of, typed, name_row, variable_at, method_at, infix_width, either, width_in, width_for, width_of_sort}
-use Rattle.bv_typing.specs.Readings as readings
+use Rattle.bv_typing.specs.Readings.{Env, judged, kinds, kind_of, typed, name_row, variable_at, method_at, infix_width, either, width_in, width_for}
 use Rattle.bv_typing.specs.Goals.{own, misfits, all_misfits, outermost, least, not_truth, truth_misfits, hypotheses}
 use Rattle.bv_typing.specs.Earliest.{also}
 use Rattle.bv_typing.specs.Notes.{nothing, tells, number_of, notes, all_notes, binder_notes}
@@ -37,7 +34,7 @@ use Rattle.bv_typing.specs.Verdicts.{none_gathered, gathered_before, kinds_befor
 use Rattle.bv_typing.specs.Judging as spec
 use Rattle.bv_typing.specs.Judging.{Judging, judge, judge_all, gather, complete, row_in, typed_in, kind_in, truths_misfit, least_of, start}
 use Rattle.bv_typing.proofs.Least.{also_none, also_assoc, least-append, least_behind}
-use Rattle.bv_typing.proofs.ByParts.{at, kind_again, with_row, Says, says_prefix, says_infix, says_choice, says_ascribed, says_method, few_of}
+use Rattle.bv_typing.proofs.ByParts.{at, kind_again, with_row, says_prefix, says_infix, says_choice, says_ascribed, says_method, few_of}
 
 -- ---- what is found
 

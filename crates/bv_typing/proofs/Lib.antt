@@ -4,3 +4,4 @@ pub mod ByParts
 pub mod Judged
 pub mod Placing
 pub mod InGoals
+pub mod Spelling

@@ -1,5 +1,5 @@
 -- How the fault of a file's types is found from the pieces of its goals.
-use Rattle.std.specs.Prelude.{ℕ, suc, zero, Bool, true, false, if◌then◌else◌, List, [], ◌∷◌, Option, flat_map, map}
+use Rattle.std.specs.Prelude.{ℕ, suc, Bool, true, false, if◌then◌else◌, List, [], ◌∷◌, Option, flat_map, map}
 use Rattle.bv_trees.specs.declared.pieces.Piece.{Piece}
 use Rattle.bv_trees.specs.declared.pieces.Piece.TheVariants as piece
 use Rattle.bv_typing.specs.declared.misfit.Misfit.{Misfit}

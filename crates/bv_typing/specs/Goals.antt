@@ -1,10 +1,9 @@
 -- What the goals of a file read as, and the one fault of their types.
-use Rattle.std.specs.Prelude.{◌≡◌, ℕ, ◌+◌, ◌-◌, ◌≤◌, nat_le, nat_eq, if◌then◌else◌, List, [], ◌∷◌, ◌++◌, length, Option, Some, None, option_map, map, flat_map, codes}
+use Rattle.std.specs.Prelude.{◌≡◌, ℕ, ◌+◌, ◌-◌, nat_le, nat_eq, if◌then◌else◌, List, [], ◌∷◌, ◌++◌, Option, Some, None, option_map, map, flat_map, codes}
 use Rattle.std.specs.List.{range_with_len}
 use Rattle.bv_lex.specs.declared.fault.What.TheVariants as what
 use Rattle.bv_lex.specs.declared.fault.FaultKind.TheVariants as fault
 use Rattle.bv_expr.specs.declared.ops.Sort.TheVariants.{Truth}
-use Rattle.bv_expr.specs.Term.{Term}
 use Rattle.bv_expr.specs.Statement.{Statement}
 use Rattle.bv_trees.specs.Trees.{Tree, Trees, name, numeral, literal, prefix, infix_, method, ascribed, no_more, and, Binder, variables, hypothesis, Goal}
 use Rattle.bv_trees.specs.Trees as trees
@@ -101,8 +100,12 @@ least (f ∷ fs) = Some (earlier f (least fs))
 abbrev pub path_text : Source → ℕ → ℕ → List ℕ
 path_text s i n = flat_map (text_at s) (range_with_len i n)
 
+-- of a goal whose head word stands at i, and whose name ends before j
+abbrev pub name_between : Source → ℕ → ℕ → List ℕ
+name_between s i j = if nat_eq j (i + 1) then codes "example" else path_text s (i + 1) (j - (i + 1))
+
 abbrev pub goal_name : Source → Goal → List ℕ
-goal_name s g = if nat_eq g.path (g.head + 1) then codes "example" else path_text s (g.head + 1) (g.path - (g.head + 1))
+goal_name s g = name_between s g.head g.path
 
 -- what a goal states
 abbrev pub statement : Source → Goal → Statement

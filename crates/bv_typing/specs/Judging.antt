@@ -1,5 +1,5 @@
 -- How the types of a goal's terms are judged: by one walk over its pieces, with a stack of the terms that are complete.
-use Rattle.std.specs.Prelude.{ℕ, ◌+◌, List, [], ◌∷◌, ◌++◌, Option, Some, None, option_map, option_and_then, map}
+use Rattle.std.specs.Prelude.{ℕ, List, [], ◌∷◌, ◌++◌, Option, Some, None, option_map, option_and_then, map}
 use Rattle.bv_grammar.specs.declared.words.Word.{Word}
 use Rattle.bv_expr.specs.declared.ops.Sort.{Sort}
 use Rattle.bv_expr.specs.declared.ops.Sort.TheVariants.{Truth}

@@ -1,5 +1,5 @@
 -- What each piece of a tree tells its parts, in the order of the pieces.
-use Rattle.std.specs.Prelude.{ℕ, zero, suc, List, [], ◌∷◌, ◌++◌, Option, None}
+use Rattle.std.specs.Prelude.{ℕ, suc, List, [], ◌∷◌, ◌++◌, Option, None}
 use Rattle.bv_trees.specs.Trees.{Tree, Trees, name, numeral, literal, prefix, infix_, method, ascribed, no_more, and, Binder, variables, hypothesis}
 use Rattle.bv_trees.specs.Trees as trees
 use Rattle.bv_typing.specs.declared.note.Note.{Note}

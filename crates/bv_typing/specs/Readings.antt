@@ -1,7 +1,7 @@
 -- What the trees of a goal read as: of which kind each is, and which term. A bare part is read at a width that stands beside
 -- it or is written behind it.
-use Rattle.std.specs.Prelude.{ℕ, zero, suc, ◌+◌, ◌-◌, Bool, true, false, nat_le, if◌then◌else◌, List, [], ◌∷◌, ◌++◌, Option, Some, None, option_map, option_and_then}
-use Rattle.bv_value.specs.BitVector.{BitVector, of_number}
+use Rattle.std.specs.Prelude.{ℕ, zero, suc, ◌+◌, ◌-◌, Bool, true, false, nat_le, if◌then◌else◌, List, [], ◌∷◌, Option, Some, None, option_map, option_and_then}
+use Rattle.bv_value.specs.BitVector.{of_number}
 use Rattle.bv_grammar.specs.declared.words.Word.{Word}
 use Rattle.bv_grammar.specs.declared.words.Word.TheVariants as words
 use Rattle.bv_expr.specs.declared.ops.Sort.{Sort}

@@ -4,10 +4,9 @@ use Rattle.bv_grammar.specs.declared.words.Word.{Word}
 use Rattle.bv_grammar.specs.declared.words.Word.TheVariants as words
 use Rattle.bv_expr.specs.declared.ops.Sort.{Sort}
 use Rattle.bv_expr.specs.declared.ops.Sort.TheVariants.{Truth, Vector}
-use Rattle.bv_expr.specs.declared.ops.Unary.TheVariants as of
 use Rattle.bv_expr.specs.declared.ops.Binary.{Binary}
 use Rattle.bv_expr.specs.declared.ops.Binary.TheVariants as on
-use Rattle.bv_expr.specs.Sorts.{binary_sort, unary_sort, vectors}
+use Rattle.bv_expr.specs.Sorts.{binary_sort}
 use Rattle.bv_typing.specs.declared.kind.Kind.{Kind}
 use Rattle.bv_typing.specs.declared.kind.Kind.TheVariants as kind
 use Rattle.bv_typing.specs.declared.kind.Row.{Row}

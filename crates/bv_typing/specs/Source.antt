@@ -1,5 +1,5 @@
 -- A file as its tokens, and what they spell. A place is a number of tokens before it.
-use Rattle.std.specs.Prelude.{ℕ, ◌+◌, ◌-◌, ◌≤◌, ◌<◌, List, [], ◌∷◌, Option, Some, None, slice_get, slice_range, All}
+use Rattle.std.specs.Prelude.{ℕ, ◌+◌, ◌-◌, List, [], Option, Some, None, slice_get, slice_range}
 use Rattle.bv_lex.specs.declared.token.Token.{Token}
 use Rattle.bv_lex.specs.declared.token.TokenKind.{TokenKind}
 use Rattle.bv_lex.specs.declared.token.TokenKind.TheVariants as kinds
@@ -8,6 +8,9 @@ use Rattle.bv_lex.specs.declared.token.TokenKind.TheVariants as kinds
 pub record Source : Type 0 where
   pub bytes : List ℕ
   pub tokens : List Token
+
+abbrev pub source : List ℕ → List Token → Source
+source bytes tokens = record { bytes = bytes; tokens = tokens }
 
 abbrev pub text_of : List ℕ → Option Token → List ℕ
 text_of bytes None = []

@@ -3,7 +3,6 @@ use Rattle.std.specs.Prelude.{ℕ, ◌+◌, max, Option, Some, None, option_map,
 use Rattle.bv_grammar.specs.declared.words.Word.{Word}
 use Rattle.bv_expr.specs.declared.ops.Sort.{Sort}
 use Rattle.bv_limits.specs.Depths.{added}
-use Rattle.bv_typing.specs.declared.kind.Kind.{Kind}
 use Rattle.bv_typing.specs.declared.kind.Row.{Row}
 use Rattle.bv_typing.specs.declared.kind.Row.TheVariants as row
 use Rattle.bv_typing.specs.declared.method.Method.{Method}

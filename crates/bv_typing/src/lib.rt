@@ -3,12 +3,14 @@
 
 mod building;
 mod faults;
+mod goals;
 mod item;
 mod judging;
 mod kind;
 mod method;
 mod methods;
 mod misfit;
+mod names;
 mod note;
 mod rows;
 mod sorts;
@@ -18,6 +20,7 @@ mod variables;
 mod verdicts;
 mod widths;
 
+pub use goals::find_misfit;
 pub use kind::{Kind, Row};
 pub use method::{Method, Numbered};
 pub use misfit::Misfit;

@@ -8,6 +8,7 @@ use bv_lex::{Token, TokenKind};
 use std::marker::Model;
 
 /// The bytes of a file, and its tokens.
+#[derive(Drop)]
 pub(crate) struct File<'a> {
     bytes: &'a [u8],
     tokens: &'a [Token],

@@ -35,8 +35,16 @@ const INFIX: [(Word, Kind, Kind, Row); 8] = [
 /// A method of a byte.
 const CALLS: [(&[u8], Arguments, Row); 5] = [
     (b"sdiv", Arguments::One(BYTE), Row::Typed(BYTE)),
-    (b"rotateLeft", Arguments::One(Kind::Number(9)), Row::Typed(BYTE)),
-    (b"sshiftRight", Arguments::One(Kind::Number(200)), Row::Typed(BYTE)),
+    (
+        b"rotateLeft",
+        Arguments::One(Kind::Number(9)),
+        Row::Typed(BYTE),
+    ),
+    (
+        b"sshiftRight",
+        Arguments::One(Kind::Number(200)),
+        Row::Typed(BYTE),
+    ),
     (b"setWidth", Arguments::One(Kind::Number(129)), Row::TooWide),
     (b"sshiftRight'", Arguments::One(Kind::Bare), Row::Fails),
 ];
