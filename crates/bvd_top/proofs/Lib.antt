@@ -6,6 +6,7 @@ pub mod FilesStated
 pub mod Replies
 pub mod Replays
 pub mod Checks
+pub mod Tellable
 pub mod GoalsTold
 pub mod Stored
 pub mod Endings

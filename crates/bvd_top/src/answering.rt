@@ -9,6 +9,8 @@ ghost use Rattle.bvd_top.specs.Stated.{IsSmall};
 ghost use Rattle.bvd_top.specs.Told.{IsTold, IsLineOf, AreTold};
 ghost use Rattle.bvd_top.specs.Parts.{IsFound, AreFound};
 ghost use Rattle.bvd_top.specs.Shown.{stated_shown, files_shown};
+ghost use Rattle.bvd_top.specs.Parsed.{IsOfFile};
+ghost use Rattle.bvd_report.specs.Tellable.{IsTellable, IsLine, IsFound as IsFoundTellable, IsPart};
 
 use crate::checking::told_check;
 use crate::clauses::told_clauses;
@@ -54,6 +56,7 @@ fn line_of<'a, K: Keeper>(
     goal: &'a Goal,
 ) -> Result<Line<'a>, Stop>
     requires { request.now.steps ≤ 1000000000 }
+    ensures tellable { IfOk result IsLine }
     ensures line { IfOk result (λ line. IsLineOf (request_shown request.now) (K.files keeper.old) (Rose (K.missing keeper.old) (K.missing keeper.new)) number (statement_of goal.now) (line_shown line)) }
     ensures files { K.files keeper.new ≡ K.files keeper.old }
     ensures missing { K.missing keeper.old ≤ K.missing keeper.new }
@@ -78,6 +81,7 @@ fn answer_goals<'a, K: Keeper>(
 ) -> Result<Vec<Line<'a>>, Stop>
     requires budget { request.now.steps ≤ 1000000000 }
     requires few { first + length goals.now < 2 ^ 64 }
+    ensures tellable { IfOk result (λ lines. All IsLine lines.items) }
     ensures told { IfOk result (λ lines. AreTold (request_shown request.now) (K.files keeper.old) (Rose (K.missing keeper.old) (K.missing keeper.new)) first (map statement_of goals.now) (lines_shown lines.items)) }
     ensures files { K.files keeper.new ≡ K.files keeper.old }
     ensures missing { K.missing keeper.old ≤ K.missing keeper.new }
@@ -103,7 +107,9 @@ fn found_of<'a, K: Keeper>(
 ) -> Result<Found<'a>, Stop>
     requires budget { request.now.steps ≤ 1000000000 }
     requires small { IsSmall (stated_shown stated.now) }
+    requires of_file { IsOfFile stated.now }
     requires few { first ≤ 2 ^ 63 }
+    ensures tellable { IfOk result IsFoundTellable }
     ensures found { IfOk result (λ found. IsFound (request_shown request.now) (K.files keeper.old) (Rose (K.missing keeper.old) (K.missing keeper.new)) first (stated_shown stated.now) (found_shown found)) }
     ensures files { K.files keeper.new ≡ K.files keeper.old }
     ensures missing { K.missing keeper.old ≤ K.missing keeper.new }
@@ -129,7 +135,9 @@ pub fn answer_all<'a, 'b, K: Keeper>(
 ) -> Result<Vec<Part<'a>>, Stop>
     requires budget { request.now.steps ≤ 1000000000 }
     requires small { All (λ f. IsSmall (stated_shown f.stated)) files.now }
+    requires of_file { All (λ f. IsOfFile f.stated) files.now }
     requires few { length files.now ≤ 64 }
+    ensures tellable { IfOk result (λ parts. All IsPart parts.items) }
     ensures found { IfOk result (λ parts. AreFound (request_shown request.now) (K.files keeper.old) (Rose (K.missing keeper.old) (K.missing keeper.new)) 1 (files_shown files.now) (parts_shown parts.items)) }
     ensures few { IfOk result (λ parts. length (all_goals (parts_shown parts.items)) ≤ 65536) }
     ensures files { K.files keeper.new ≡ K.files keeper.old }

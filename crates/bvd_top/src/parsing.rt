@@ -1,11 +1,10 @@
 //! What the files of a run state. All files are parsed before the first goal is answered; the goals stay where they are, and what is told of them borrows them.
 ghost use Rattle.std.specs.Prelude.{◌≡◌, ◌≤◌, All, length, IfOk};
-ghost use Rattle.bv_lex.specs.Cut.{IsMemory};
 ghost use Rattle.bvd_top.specs.Reading.{IsWithin};
 ghost use Rattle.bvd_top.specs.Stated.{most_bytes, IsStatedBy};
 ghost use Rattle.bvd_top.specs.Stated as spec;
 ghost use Rattle.bvd_top.specs.Shown.{stated_shown};
-ghost use Rattle.bvd_top.specs.Parsed.{IsParsed, AreParsed};
+ghost use Rattle.bvd_top.specs.Parsed.{IsParsed, AreParsed, IsOfFile};
 
 use crate::keeping::keep;
 use crate::reading::{FileRead, Read};
@@ -33,7 +32,7 @@ pub struct File<'a> {
 /// That bytes have a fault. Want of memory is none.
 fn faulty(fault: Fault) -> Result<Stated, AllocError>
     ensures stated { IfOk result (λ s. stated_shown s ≡ spec.Stated.Faulty fault) }
-    ensures memory { IfOk result (λ s. ¬ (IsMemory fault.kind)) }
+    ensures of_file { IfOk result IsOfFile }
 {
     match fault.kind {
         FaultKind::Memory(error) => Err(error),
@@ -44,7 +43,8 @@ fn faulty(fault: Fault) -> Result<Stated, AllocError>
 /// What bytes state.
 fn stated_by(alloc: Global, bytes: &[u8]) -> Result<Stated, AllocError>
     requires { length bytes.now ≤ most_bytes }
-    ensures { IfOk result (λ s. IsStatedBy bytes.now (stated_shown s)) }
+    ensures stated { IfOk result (λ s. IsStatedBy bytes.now (stated_shown s)) }
+    ensures of_file { IfOk result IsOfFile }
 {
     match parse(alloc, bytes) {
         Ok(goals) => Ok(Stated::Goals(goals)),
@@ -55,7 +55,8 @@ fn stated_by(alloc: Global, bytes: &[u8]) -> Result<Stated, AllocError>
 /// What a file states of which this was read.
 fn stated_in(alloc: Global, content: &FileRead) -> Result<Stated, AllocError>
     requires { IsWithin most_bytes content.now }
-    ensures { IfOk result (λ s. IsParsed content.now (stated_shown s)) }
+    ensures parsed { IfOk result (λ s. IsParsed content.now (stated_shown s)) }
+    ensures of_file { IfOk result IsOfFile }
 {
     match content {
         FileRead::Absent => Ok(Stated::Absent),
@@ -68,7 +69,8 @@ fn stated_in(alloc: Global, content: &FileRead) -> Result<Stated, AllocError>
 /// Errors: want of memory alone. Cost: that of parsing the files' bytes.
 pub fn parse_all<'a>(alloc: Global, reads: &[Read<'a>]) -> Result<Vec<File<'a>>, AllocError>
     requires { All (λ r. IsWithin most_bytes r.content) reads.now }
-    ensures { IfOk result (λ files. AreParsed reads.now files.items) }
+    ensures parsed { IfOk result (λ files. AreParsed reads.now files.items) }
+    ensures of_file { IfOk result (λ files. All (λ f. IsOfFile f.stated) files.items) }
 {
     let mut files = Vec::new(alloc);
     'reads: for read in reads {

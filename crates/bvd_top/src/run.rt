@@ -7,6 +7,7 @@ ghost use Rattle.bvd_words.specs.Asked.{request_shown};
 ghost use Rattle.bvd_top.specs.Parts.{AreFound};
 ghost use Rattle.bvd_top.specs.Stated.{IsSmall, AreStated};
 ghost use Rattle.bvd_top.specs.Shown.{stated_shown, files_shown};
+ghost use Rattle.bvd_top.specs.Parsed.{IsOfFile};
 ghost use Rattle.bvd_words.specs.Requests.{request_of};
 ghost use Rattle.bvd_top.specs.Words.{usage};
 ghost use Rattle.bvd_top.specs.Ending.{Ending, Answered, Finishes, Does, IsFaultTold, status_in};
@@ -30,6 +31,7 @@ fn files_of<'a, K: Keeper>(
 ) -> Result<Vec<File<'a>>, Stop>
     ensures stated { IfOk result (λ files. AreStated (K.files keeper.old) (Rose (K.missing keeper.old) (K.missing keeper.new)) (request_shown request.now).files (files_shown files.items)) }
     ensures small { IfOk result (λ files. All (λ f. IsSmall (stated_shown f.stated)) files.items) }
+    ensures of_file { IfOk result (λ files. All (λ f. IsOfFile f.stated) files.items) }
     ensures count { IfOk result (λ files. length files.items ≡ length request.now.files.items) }
     ensures files { K.files keeper.new ≡ K.files keeper.old }
     ensures missing { K.missing keeper.old ≤ K.missing keeper.new }
@@ -49,6 +51,7 @@ fn finish<K: Keeper, S: Sink>(
 ) -> Result<u8, Stop>
     requires budget { request.now.steps ≤ 1000000000 }
     requires small { All (λ f. IsSmall (stated_shown f.stated)) files.now }
+    requires of_file { All (λ f. IsOfFile f.stated) files.now }
     requires few { length files.now ≤ 64 }
     ensures counts { CountsStay (outside K.files K.faults K.missing S.written S.faults keeper.old out.old) (outside K.files K.faults K.missing S.written S.faults keeper.new out.new) }
     ensures ending { Finishes (AreFound (request_shown request.now) (K.files keeper.old) (Rose (K.missing keeper.old) (K.missing keeper.new)) 1 (files_shown files.now)) (request_shown request.now)

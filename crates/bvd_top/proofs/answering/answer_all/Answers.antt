@@ -2,6 +2,10 @@ use Rattle.std.proofs.Common.{◌≡◌, ◌∙◌, ◌+◌, ◌≤◌, ◌∷�
 use Rattle.std.proofs.lemmas.List.{map-append, length-map}
 use Rattle.bvd_host.specs.Causes.{Rose}
 use Rattle.bvd_words.specs.Asked.{request_shown}
+use Rattle.std.specs.Prelude.{All}
+use Rattle.std.proofs.Common.{List}
+use Rattle.std.proofs.lemmas.List.Elements.{All-push}
+use Rattle.bvd_report.specs.Tellable.{IsPart}
 use Rattle.bvd_report.specs.declared.told.Part.{Part}
 use Rattle.bvd_report.specs.Report.{goals_of}
 use Rattle.bvd_report.specs.Shown.{found_shown, line_shown, part_shown, parts_shown}
@@ -31,6 +35,7 @@ files-preserved g c =
           (g.K.Keeper.missing c.found_of.new.keeper) 1 c.files.number (files_shown here) (files_shown (take (c.files.file-index + 1) c.args.files.now)) (parts_shown c.files.parts.items)
           (parts_shown c.keep.new.items.items) (file_shown file) (part_shown part) c.files.invariant.found c.files.invariant.files c.files.invariant.missing c.in_ok-found.ensures.missing
           c.files.invariant.number refl c.in_ok-found.ensures.found files parts;
+      tellable = subst (All IsPart) (sym {A = List Part} c.in_ok-keep.ensures) (All-push IsPart c.files.parts.items part c.files.invariant.tellable c.in_ok-found.ensures.tellable);
       number = omega (arith, c.files.invariant.number, more, count);
       few = omega (arith, c.files.invariant.few, count, stated, small);
       files = c.in_ok-found.ensures.files ∙ c.files.invariant.files;

@@ -1,5 +1,10 @@
 use Rattle.std.proofs.Common.{◌≡◌, ◌∙◌, ◌+◌, ◌≤◌, ◌∷◌, [], map, take, arith, ap, length}
 use Rattle.std.proofs.lemmas.List.{map-append, length-map, length-take-le}
+use Rattle.std.specs.Prelude.{All}
+use Rattle.std.proofs.Common.{sym, subst, List}
+use Rattle.std.proofs.lemmas.List.Elements.{All-push}
+use Rattle.bvd_report.specs.declared.told.Line.{Line}
+use Rattle.bvd_report.specs.Tellable.{IsLine}
 use Rattle.bv_expr.specs.Statement.{statement_of}
 use Rattle.bvd_words.specs.Asked.{request_shown}
 use Rattle.bvd_report.specs.Shown.{line_shown, lines_shown}
@@ -21,6 +26,7 @@ goals-preserved g c =
           (g.K.Keeper.missing c.line_of.new.keeper) c.args.first c.goals.number (map statement_of here) (map statement_of (take (c.goals.goal-index + 1) c.args.goals.now)) (lines_shown c.goals.lines.items)
           (lines_shown c.keep.new.items.items) (statement_of item) (line_shown line) c.goals.invariant.told c.goals.invariant.files c.goals.invariant.missing c.in_ok-line.ensures.missing
           (omega (arith, c.goals.invariant.number, count)) c.in_ok-line.ensures.line goals lines;
+      tellable = subst (All IsLine) (sym {A = List Line} c.in_ok-keep.ensures) (All-push IsLine c.goals.lines.items line c.goals.invariant.tellable c.in_ok-line.ensures.tellable);
       number = omega (arith, c.goals.invariant.number);
       files = c.in_ok-line.ensures.files ∙ c.goals.invariant.files;
       faults = c.in_ok-line.ensures.cause.spared (λ failed. cc) ∙ c.goals.invariant.faults;
