@@ -11,7 +11,8 @@ use Rattle.std.proofs.lemmas.List.Elements.{All-head, All-tail}
 use Rattle.std.proofs.lemmas.Map.Text.{is_eq-slice_cmp}
 use Rattle.std.proofs.lemmas.Slice.Eq.{bytes_eq-Decides}
 use Rattle.bvd_host.specs.Files.{Files, file_at, with_file}
-use Rattle.bvd_report.specs.Report.{Told, Proved, Line, certificate_name, with_certificate, certificates_from}
+use Rattle.bvd_report.specs.Report.{Told, Proved, Line, with_certificate, certificates_of}
+use Rattle.bvd_top.specs.Names.{numbered}
 use Rattle.bvd_top.specs.Storing.{with_all}
 
 apart_untied : (x y : List ℕ) → ¬ (x ≡ y) → eq_by_cmp (slice_cmp nat_cmp) x y ≡ false
@@ -37,46 +38,52 @@ stays (file ∷ rest) f name apart =
     ∙ elsewhere f file.0 file.1 name (All-head (λ (other : List ℕ × List ℕ). ¬ (name ≡ other.0)) file rest apart)
 
 -- the certificates of two goals have two names
-own_name : (j k : ℕ) → j < k → k < 2 ^ 64 → ¬ (certificate_name j ≡ certificate_name k)
+own_name : (j k : ℕ) → j < k → k < 2 ^ 64 → ¬ (numbered j ≡ numbered k)
 own_name j k lt small e =
     let ends : decimal j ++ codes ".lrat" ≡ decimal k ++ codes ".lrat" = append_cancel_left (codes "goal-") (decimal j ++ codes ".lrat") (decimal k ++ codes ".lrat") e in
     let numbers : decimal j ≡ decimal k = append_cancel_right (decimal j) (decimal k) (codes ".lrat") ends in
     let same : j ≡ k = decimal_injective j k (omega arith) small numbers in
     omega arith
 
+-- the certificates of goals are named by their numbers, from k on
+abbrev pub AreNumbered : ℕ → List Line → Type 0
+AreNumbered k [] = ⊤
+AreNumbered k (line ∷ lines) = (line.certificate ≡ numbered k) × AreNumbered (k + 1) lines
+
 -- a goal's certificate, where it has one, and others leave that of an earlier goal
-next_stays : (j k : ℕ) (told : Told) (others : List (List ℕ × List ℕ)) (f : Files) → j < k → k < 2 ^ 64
-    → ((g : Files) → file_at (with_all others g) (certificate_name j) ≡ file_at g (certificate_name j))
-    → file_at (with_all (with_certificate k told others) f) (certificate_name j) ≡ file_at f (certificate_name j)
-next_stays j k (Proved text) others f lt small rest =
-    rest (with_file f (certificate_name k) text) ∙ elsewhere f (certificate_name k) text (certificate_name j) (own_name j k lt small)
-next_stays j k told others f lt small rest = rest f
+next_stays : (j k : ℕ) (name : List ℕ) (told : Told) (others : List (List ℕ × List ℕ)) (f : Files) → name ≡ numbered k → j < k → k < 2 ^ 64
+    → ((g : Files) → file_at (with_all others g) (numbered j) ≡ file_at g (numbered j))
+    → file_at (with_all (with_certificate name told others) f) (numbered j) ≡ file_at f (numbered j)
+next_stays j k name (Proved text) others f named lt small rest =
+    rest (with_file f name text) ∙ elsewhere f name text (numbered j) (λ e. own_name j k lt small (e ∙ named))
+next_stays j k name told others f named lt small rest = rest f
 
 -- the certificates of later goals leave that of an earlier one
-earlier_stays : (j k : ℕ) (lines : List Line) (f : Files) → j < k → k + length lines ≤ 2 ^ 64 → file_at (with_all (certificates_from k lines) f) (certificate_name j) ≡ file_at f (certificate_name j)
-earlier_stays j k [] f lt small = refl
-earlier_stays j k (line ∷ lines) f lt small =
-    next_stays j k line.told (certificates_from (k + 1) lines) f lt (omega arith) (λ g. earlier_stays j (k + 1) lines g (omega arith) (omega arith))
+earlier_stays : (j k : ℕ) (lines : List Line) (f : Files) → AreNumbered k lines → j < k → k + length lines ≤ 2 ^ 64 → file_at (with_all (certificates_of lines) f) (numbered j) ≡ file_at f (numbered j)
+earlier_stays j k [] f are lt small = refl
+earlier_stays j k (line ∷ lines) f are lt small =
+    next_stays j k line.certificate line.told (certificates_of lines) f are.0 lt (omega arith) (λ g. earlier_stays j (k + 1) lines g are.1 (omega arith) (omega arith))
 
 -- where a goal is told proved, the file of its certificate holds the text
-abbrev pub IsKept : Files → ℕ → Told → Type 0
-IsKept files k (Proved text) = file_at files (certificate_name k) ≡ Some text
-IsKept files k told = ⊤
+abbrev pub IsKept : Files → List ℕ → Told → Type 0
+IsKept files name (Proved text) = file_at files name ≡ Some text
+IsKept files name told = ⊤
 
-abbrev pub AreKept : Files → ℕ → List Line → Type 0
-AreKept files k [] = ⊤
-AreKept files k (line ∷ lines) = IsKept files k line.told × AreKept files (k + 1) lines
+abbrev pub AreKept : Files → List Line → Type 0
+AreKept files [] = ⊤
+AreKept files (line ∷ lines) = IsKept files line.certificate line.told × AreKept files lines
 
-kept_line : (lines : List Line) (k : ℕ) (f : Files) (told : Told) → k + suc (length lines) ≤ 2 ^ 64
-    → ((g : Files) → AreKept (with_all (certificates_from (k + 1) lines) g) (k + 1) lines)
-    → IsKept (with_all (with_certificate k told (certificates_from (k + 1) lines)) f) k told × AreKept (with_all (with_certificate k told (certificates_from (k + 1) lines)) f) (k + 1) lines
-kept_line lines k f (Proved text) small rest = (
-  earlier_stays k (k + 1) lines (with_file f (certificate_name k) text) (omega arith) (omega arith) ∙ there f (certificate_name k) text,
-  rest (with_file f (certificate_name k) text),
-)
-kept_line lines k f told small rest = (tt, rest f)
+kept_line : (lines : List Line) (k : ℕ) (f : Files) (name : List ℕ) (told : Told) → name ≡ numbered k → AreNumbered (k + 1) lines → k + suc (length lines) ≤ 2 ^ 64
+    → ((g : Files) → AreKept (with_all (certificates_of lines) g) lines)
+    → IsKept (with_all (with_certificate name told (certificates_of lines)) f) name told × AreKept (with_all (with_certificate name told (certificates_of lines)) f) lines
+kept_line lines k f name (Proved text) named are small rest =
+    let now : Files = with_file f name text in
+    let stays_there : file_at (with_all (certificates_of lines) now) (numbered k) ≡ file_at now (numbered k) = earlier_stays k (k + 1) lines now are (omega arith) (omega arith) in
+    let here : file_at now (numbered k) ≡ Some text = ap (file_at now) (sym named) ∙ there f name text in
+    (ap (file_at (with_all (certificates_of lines) now)) named ∙ stays_there ∙ here, rest now)
+kept_line lines k f name told named are small rest = (tt, rest f)
 
 -- all certificates that a run writes are there behind it
-pub all_kept : (lines : List Line) (k : ℕ) (f : Files) → k + length lines ≤ 2 ^ 64 → AreKept (with_all (certificates_from k lines) f) k lines
-all_kept [] k f small = tt
-all_kept (line ∷ lines) k f small = kept_line lines k f line.told small (λ g. all_kept lines (k + 1) g (omega arith))
+pub all_kept : (lines : List Line) (k : ℕ) (f : Files) → AreNumbered k lines → k + length lines ≤ 2 ^ 64 → AreKept (with_all (certificates_of lines) f) lines
+all_kept [] k f are small = tt
+all_kept (line ∷ lines) k f are small = kept_line lines k f line.certificate line.told are.0 are.1 small (λ g. all_kept lines (k + 1) g are.1 (omega arith))

@@ -1,18 +1,18 @@
 -- What follows where no device fails.
 use Rattle.std.proofs.Common.{◌≡◌, ◌⊎◌, inl, inr, ℕ, ◌+◌, ◌≤◌, ◌≢◌, max, length, List, [], ◌∷◌, ◌++◌, refl, sym, ap, ◌∙◌, subst, arith, Some, None}
-use Rattle.std.specs.Prelude.{Option, option_map}
+use Rattle.std.specs.Prelude.{Option, option_map, Ok, Err}
 use Rattle.bvd_host.specs.Files.{Files}
 use Rattle.bvd_host.specs.Causes.{Rose}
 use Rattle.bvd_host.specs.Outside.{Outside, SinkFailed, IsHonest}
 use Rattle.bv_expr.specs.Statement.{Statement}
-use Rattle.bvd_words.specs.Requests.{Command, Prove, Alone, Check, Cnf, Request}
-use Rattle.bvd_report.specs.Report.{Told, Proved, False, Budget, Deep, Large, OutOfMemory, Clauses, Accepted, Refused, NoEmptyClause, AbsentCertificate, Line, Found, Part, certificate_name, goals_of, report, certificates, status_of, found_status, goals_status, told_status}
+use Rattle.bvd_words.specs.Requests.{Command, Prove, Alone, Check, Cnf, Show, Request}
+use Rattle.bvd_report.specs.Report.{Told, Proved, False, Budget, Deep, Large, Full, Cancelled, OutOfMemory, Clauses, Replayed, AbsentCertificate, Nothing, Line, Found, Part, goals_of, report, certificates, status_of, found_status, goals_status, told_status}
 use Rattle.bvd_top.specs.Words.{usage}
 use Rattle.bvd_top.specs.Storing.{with_all}
-use Rattle.bvd_top.specs.Stated.{Stated, Absent, NotYet, Goals, Read, AreRead}
-use Rattle.bvd_top.specs.Told.{IsTold, AreTold}
+use Rattle.bvd_top.specs.Stated.{Stated, Absent, TooLong, Faulty, Goals, File, AreStated}
+use Rattle.bvd_top.specs.Told.{IsTold, IsLineOf, AreTold}
 use Rattle.bvd_top.specs.Parts.{IsFound, AreFound, ArePartsOf}
-use Rattle.bvd_top.proofs.Checked.{checked_told}
+use Rattle.bvd_top.proofs.Checks.{checked_told}
 use Rattle.bvd_top.specs.Ending.{Stops, Tells, Untold, AnsweredIf, Does, IsFaultTold}
 
 not_stopped : (before now status : ℕ) → ¬ (Rose before now) → status ≢ 7 → Stops before now status → ⊥
@@ -25,44 +25,53 @@ whole text added own status before after told holds seven (inl t) = (t.0 ∙ ap 
 whole text added own status before after told holds seven (inr t) = absurd (not_stopped before.sink_faults after.sink_faults status holds seven t.3)
 
 -- where the files are told, nothing hangs on missing files
-reads_told : (files : Files) (m n : Type 0) (names : List (List ℕ)) (reads : List Read) → AreRead (Some files) m names reads → AreRead (Some files) n names reads
-reads_told files m n [] [] are = are
-reads_told files m n [] (read ∷ reads) are = are
-reads_told files m n (name ∷ names) [] are = are
-reads_told files m n (name ∷ names) (read ∷ reads) are = (are.0, are.1, reads_told files m n names reads are.2)
+all_stated_told : (files : Files) (m n : Type 0) (names : List (List ℕ)) (stated : List File) → AreStated (Some files) m names stated → AreStated (Some files) n names stated
+all_stated_told files m n [] [] are = are
+all_stated_told files m n [] (file ∷ rest) are = are
+all_stated_told files m n (name ∷ names) [] are = are
+all_stated_told files m n (name ∷ names) (file ∷ rest) are = (are.0, are.1, all_stated_told files m n names rest are.2)
 
-goal_told : (command : Command) (steps : ℕ) (files : Files) (m n : Type 0) (k : ℕ) (goal : Statement) (told : Told) → IsTold command steps (Some files) m k goal told
-    → IsTold command steps (Some files) n k goal told
-goal_told Prove steps files m n k goal told is = is
-goal_told Alone steps files m n k goal told is = is
-goal_told Check steps files m n k goal told is = checked_told files m n (certificate_name k) goal told is
-goal_told Cnf steps files m n k goal told is = is
+goal_told : (command : Command) (steps : ℕ) (files : Files) (m n : Type 0) (name : List ℕ) (goal : Statement) (told : Told) → IsTold command steps (Some files) m name goal told
+    → IsTold command steps (Some files) n name goal told
+goal_told Prove steps files m n name goal told is = is
+goal_told Alone steps files m n name goal told is = is
+goal_told Check steps files m n name goal told is = checked_told files m n name goal told is
+goal_told Cnf steps files m n name goal told is = is
+goal_told Show steps files m n name goal told is = is
+
+line_told : (request : Request) (files : Files) (m n : Type 0) (k : ℕ) (goal : Statement) (line : Line) → IsLineOf request (Some files) m k goal line → IsLineOf request (Some files) n k goal line
+line_told request files m n k goal line is = record {
+  same_goal = is.same_goal;
+  named = is.named;
+  told = goal_told request.command request.steps files m n line.certificate goal line.told is.told;
+}
 
 goals_told : (request : Request) (files : Files) (m n : Type 0) (k : ℕ) (goals : List Statement) (lines : List Line) → AreTold request (Some files) m k goals lines
     → AreTold request (Some files) n k goals lines
 goals_told request files m n k [] [] are = are
 goals_told request files m n k [] (line ∷ lines) are = are
 goals_told request files m n k (goal ∷ goals) [] are = are
-goals_told request files m n k (goal ∷ goals) (line ∷ lines) are =
-    (are.0, goal_told request.command request.steps files m n k goal line.told are.1, goals_told request files m n (k + 1) goals lines are.2)
+goals_told request files m n k (goal ∷ goals) (line ∷ lines) are = (line_told request files m n k goal line are.0, goals_told request files m n (k + 1) goals lines are.1)
 
 file_told : (request : Request) (files : Files) (m n : Type 0) (k : ℕ) (s : Stated) (found : Found) → IsFound request (Some files) m k s found → IsFound request (Some files) n k s found
 file_told request files m n k Absent found is = is
-file_told request files m n k NotYet found is = is
+file_told request files m n k TooLong found is = is
+file_told request files m n k (Faulty fault) found is = is
 file_told request files m n k (Goals goals) Found.Absent is = is
-file_told request files m n k (Goals goals) Found.NotYet is = is
+file_told request files m n k (Goals goals) Found.TooLong is = is
+file_told request files m n k (Goals goals) (Found.Faulty fault) is = is
 file_told request files m n k (Goals goals) (Found.Goals lines) is = goals_told request files m n k goals lines is
 
-files_told : (request : Request) (files : Files) (m n : Type 0) (k : ℕ) (reads : List Read) (parts : List Part) → AreFound request (Some files) m k reads parts
-    → AreFound request (Some files) n k reads parts
+files_told : (request : Request) (files : Files) (m n : Type 0) (k : ℕ) (stated : List File) (parts : List Part) → AreFound request (Some files) m k stated parts
+    → AreFound request (Some files) n k stated parts
 files_told request files m n k [] [] are = are
 files_told request files m n k [] (part ∷ parts) are = are
-files_told request files m n k (read ∷ reads) [] are = are
-files_told request files m n k (read ∷ reads) (part ∷ parts) are =
-    (are.0, file_told request files m n k read.stated part.found are.1, files_told request files m n (k + length (goals_of part.found)) reads parts are.2)
+files_told request files m n k (file ∷ rest) [] are = are
+files_told request files m n k (file ∷ rest) (part ∷ parts) are =
+    (are.0, file_told request files m n k file.stated part.found are.1, files_told request files m n (k + length (goals_of part.found)) rest parts are.2)
 
 parts_told : (request : Request) (files : Files) (m n : Type 0) (parts : List Part) → ArePartsOf (Some files) m request parts → ArePartsOf (Some files) n request parts
-parts_told request files m n parts are = (are.0, reads_told files m n request.files are.0 are.1, files_told request files m n 1 are.0 parts are.2)
+parts_told request files m n parts are = (are.0, all_stated_told files m n request.files are.0 are.1, files_told request files m n 1 are.0 parts are.2)
 
 pub done : (o : Option Request) (files : Files) (text : List ℕ) (before after : Outside) (status : ℕ) → IsHonest before after files text → status ≢ 7 → AnsweredIf o before after status → Does o files text after status
 done None files text before after status honest seven r =
@@ -82,12 +91,12 @@ done (Some request) files text before after status honest seven (inr (inr r)) =
       },
     )
 
--- statuses that goals and files ask for: none is 2, 5 or 6
+-- statuses that goals and files ask for: none is 2 or 6
 record IsOwn (n : ℕ) : Type 0 where
-  below : (n ≤ 4) ⊎ (n ≡ 7)
+  below : (n ≤ 5) ⊎ (n ≡ 7)
   apart : (n ≤ 1) ⊎ (3 ≤ n)
 
-both_below : (a b : ℕ) → (a ≤ 4) ⊎ (a ≡ 7) → (b ≤ 4) ⊎ (b ≡ 7) → (max a b ≤ 4) ⊎ (max a b ≡ 7)
+both_below : (a b : ℕ) → (a ≤ 5) ⊎ (a ≡ 7) → (b ≤ 5) ⊎ (b ≡ 7) → (max a b ≤ 5) ⊎ (max a b ≡ 7)
 both_below a b (inl h) (inl k) = inl (omega arith)
 both_below a b (inl h) (inr k) = inr (omega arith)
 both_below a b (inr h) (inl k) = inr (omega arith)
@@ -105,21 +114,23 @@ both_own a b p q = record { below = both_below a b p.below q.below; apart = both
 low : (n : ℕ) → n ≤ 1 → IsOwn n
 low n h = record { below = inl (omega arith); apart = inl h }
 
-high : (n : ℕ) → 3 ≤ n → n ≤ 4 → IsOwn n
+high : (n : ℕ) → 3 ≤ n → n ≤ 5 → IsOwn n
 high n h k = record { below = inl k; apart = inr h }
 
 told_own : (told : Told) → IsOwn (told_status told)
 told_own (Proved text) = low 0 (omega arith)
+told_own (Clauses text) = low 0 (omega arith)
+told_own (Replayed (Ok done)) = low 0 (omega arith)
+told_own Nothing = low 0 (omega arith)
 told_own (False values) = low 1 (omega arith)
+told_own (Replayed (Err refused)) = low 1 (omega arith)
 told_own (Budget spent) = high 3 (omega arith) (omega arith)
 told_own Deep = high 3 (omega arith) (omega arith)
 told_own Large = high 3 (omega arith) (omega arith)
-told_own OutOfMemory = record { below = inr refl; apart = inr (omega arith) }
-told_own (Clauses text) = low 0 (omega arith)
-told_own Accepted = low 0 (omega arith)
-told_own (Refused line fault) = low 1 (omega arith)
-told_own NoEmptyClause = low 1 (omega arith)
+told_own (Cancelled by) = high 3 (omega arith) (omega arith)
 told_own AbsentCertificate = high 4 (omega arith) (omega arith)
+told_own Full = high 5 (omega arith) (omega arith)
+told_own OutOfMemory = record { below = inr refl; apart = inr (omega arith) }
 
 goals_own : (lines : List Line) → IsOwn (goals_status lines)
 goals_own [] = low 0 (omega arith)
@@ -127,14 +138,15 @@ goals_own (line ∷ lines) = both_own (told_status line.told) (goals_status line
 
 found_own : (found : Found) → IsOwn (found_status found)
 found_own Found.Absent = high 4 (omega arith) (omega arith)
-found_own Found.NotYet = high 4 (omega arith) (omega arith)
+found_own Found.TooLong = high 4 (omega arith) (omega arith)
+found_own (Found.Faulty fault) = high 4 (omega arith) (omega arith)
 found_own (Found.Goals lines) = goals_own lines
 
 parts_own : (parts : List Part) → IsOwn (status_of parts)
 parts_own [] = low 0 (omega arith)
 parts_own (part ∷ parts) = both_own (found_status part.found) (status_of parts) (found_own part.found) (parts_own parts)
 
-never_six : (n : ℕ) → (n ≤ 4) ⊎ (n ≡ 7) → n ≢ 6
+never_six : (n : ℕ) → (n ≤ 5) ⊎ (n ≡ 7) → n ≢ 6
 never_six n (inl h) e = omega arith
 never_six n (inr h) e = omega arith
 

@@ -39,24 +39,28 @@ pub record Unread (before after : Outside) (status : ℕ) : Type 0 where
   pub stops : Stops before.keeper_faults after.keeper_faults status
 
 -- a certificate isn't written to its end; those before it are, and those behind it aren't begun
-pub record Unstored (request : Request) (before after : Outside) (status : ℕ) : Type 0 where
+pub record Unstored (are : List Part → Type 0) (before after : Outside) (status : ℕ) : Type 0 where
   pub parts : List Part
-  pub found : ArePartsOf before.files (Rose before.missing after.missing) request parts
+  pub found : are parts
   pub stored : (after.files ≡ before.files) ⊎ IsPartlyStored (certificates parts) before.files after.files
   pub untold : Untold before after
   pub stops : Stops before.keeper_faults after.keeper_faults status
 
 -- all certificates are written, and the report or a part of it
-pub record Reported (request : Request) (before after : Outside) (status : ℕ) : Type 0 where
+pub record Reported (are : List Part → Type 0) (request : Request) (before after : Outside) (status : ℕ) : Type 0 where
   pub parts : List Part
-  pub found : ArePartsOf before.files (Rose before.missing after.missing) request parts
+  pub found : are parts
   pub stored : after.files ≡ option_map (with_all (certificates parts)) before.files
   pub keeper_stays : after.keeper_faults ≡ before.keeper_faults
   pub tells : Tells (report request parts) (status_of parts) before after status
 
+-- how the run of a request ends, where this is what its parts are
+abbrev pub Finishes : (List Part → Type 0) → Request → Outside → Outside → ℕ → Type 0
+Finishes are request before after status = Unread before after status ⊎ (Unstored are before after status ⊎ Reported are request before after status)
+
 -- how the run of a request ends
 abbrev pub Answered : Request → Outside → Outside → ℕ → Type 0
-Answered request before after status = Unread before after status ⊎ (Unstored request before after status ⊎ Reported request before after status)
+Answered request before after status = Finishes (ArePartsOf before.files (Rose before.missing after.missing) request) request before after status
 
 -- the words are refused, and the keeper stays as it was
 pub record Refused (before after : Outside) (status : ℕ) : Type 0 where

@@ -1,8 +1,8 @@
 -- What the runs of the commands say of one another.
-use Rattle.std.specs.Prelude.{◌≡◌, ◌⊎◌, ◌≤◌, List, [], ◌∷◌, Some, ⊤, length, All, Contains}
+use Rattle.std.specs.Prelude.{◌≡◌, ◌⊎◌, ◌≤◌, List, [], ◌∷◌, Some, None, Ok, ⊤, length, All, Contains}
 use Rattle.bvd_host.specs.Files.{Files}
-use Rattle.bvd_words.specs.Requests.{Command, Prove, Alone, Check, Cnf, Request}
-use Rattle.bvd_report.specs.Report.{Told, Proved, Accepted, OutOfMemory, Line, Part, all_goals, certificates}
+use Rattle.bvd_words.specs.Requests.{Command, Prove, Alone, Check, Cnf, Show, Request}
+use Rattle.bvd_report.specs.Report.{Told, Proved, Replayed, OutOfMemory, Line, Part, all_goals, certificates}
 use Rattle.bvd_top.specs.Parts.{ArePartsOf}
 use Rattle.bvd_top.specs.Storing.{with_all}
 
@@ -12,18 +12,20 @@ IsSolving Prove = ⊤
 IsSolving Alone = ⊤
 IsSolving Check = ⊥
 IsSolving Cnf = ⊥
+IsSolving Show = ⊥
 
 -- a goal that was told proved is told accepted later, or that there is no memory
 abbrev pub IsConfirmed : Told → Told → Type 0
-IsConfirmed (Proved text) later = (later ≡ Accepted) ⊎ (later ≡ OutOfMemory)
+IsConfirmed (Proved text) later = (later ≡ Replayed (Ok tt)) ⊎ (later ≡ OutOfMemory)
 IsConfirmed told later = ⊤
 
--- the same of goals in order, each under its own name
+-- the same of goals in order, where they name no stored certificate
 abbrev pub AreConfirmed : List Line → List Line → Type 0
 AreConfirmed [] [] = ⊤
 AreConfirmed [] (later ∷ laters) = ⊥
 AreConfirmed (line ∷ lines) [] = ⊥
-AreConfirmed (line ∷ lines) (later ∷ laters) = (later.name ≡ line.name) × IsConfirmed line.told later.told × AreConfirmed lines laters
+AreConfirmed (line ∷ lines) (later ∷ laters) =
+    (later.goal ≡ line.goal) × (line.goal.stored ≡ None → IsConfirmed line.told later.told) × AreConfirmed lines laters
 
 -- A run of a command that searches, over some files, and a run of `check` for the same theorem files, over what that run
 -- left: its certificates are written, and nothing else is. `missing` and `missing_later` are as in `ArePartsOf`.

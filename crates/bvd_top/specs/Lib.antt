@@ -1,10 +1,15 @@
 pub mod Words
 pub mod Stated
+pub mod Names
+pub mod Answered
+pub mod Replayed
+pub mod Checked
+pub mod Clauses
 pub mod Told
 pub mod Parts
 pub mod Reading
 pub mod Storing
 pub mod Shown
-pub mod Decided
+pub mod Parsed
 pub mod Ending
 pub mod Laws

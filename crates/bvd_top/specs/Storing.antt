@@ -1,7 +1,13 @@
 -- What is left of files that are written one after the other.
-use Rattle.std.specs.Prelude.{◌≡◌, ℕ, List, [], ◌∷◌, ◌++◌, Option, option_map}
+use Rattle.std.specs.Prelude.{◌≡◌, ℕ, List, [], ◌∷◌, ◌++◌, Option, Some, None, option_map}
 use Rattle.bvd_host.specs.Files.{Files, with_file}
 use Rattle.cert_store.specs.CutShort.{IsCutShort}
+use Rattle.bvd_report.specs.Report.{Told, Proved}
+
+-- the text of the certificate by which a goal is told proved
+abbrev pub text_of : Told → Option (List ℕ)
+text_of (Proved text) = Some text
+text_of told = None
 
 -- the files after these were written in order
 abbrev pub with_all : List (List ℕ × List ℕ) → Files → Files

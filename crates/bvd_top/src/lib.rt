@@ -1,12 +1,17 @@
-//! The commands of the program, from words to report. A run reads its files in order, replies to their goals, writes the certificates and then the report; each of these steps has a file of its own.
+//! The commands of the program, from words to report. A run reads its files, parses them, answers their goals, and makes
+//! the report; then it writes the certificates, and tells the report. Each of these steps has a file of its own.
 #![tactic(auto)]
 
-mod finding;
+mod answering;
+mod checking;
+mod clauses;
 mod keeping;
 mod laws;
+mod naming;
+mod parsing;
 mod reading;
-mod replying;
 mod run;
+mod solving;
 mod stop;
 mod storing;
 mod telling;

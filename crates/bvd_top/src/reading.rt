@@ -1,9 +1,11 @@
-//! Files are read from a keeper, in pieces, up to the size that they have when they are opened.
-ghost use Rattle.std.specs.Prelude.{◌≡◌, ◌+◌, ◌<◌, ◌≤◌, length, vec_len, option_map, Some, IfSome, IfOk, OnOk, IsErrOf};
+//! Files are read from a keeper, in pieces, up to the size that they have when they are opened. All files of a run are read before the first of them is parsed.
+ghost use Rattle.std.specs.Prelude.{◌≡◌, ◌+◌, ◌<◌, ◌≤◌, All, map, length, vec_len, option_map, Some, IfSome, IfOk, OnOk, IsErrOf};
 ghost use Rattle.bvd_host.specs.Files.{file_at};
 ghost use Rattle.bvd_host.specs.Causes.{Rose, HasCause};
-ghost use Rattle.bvd_top.specs.Reading.{IsFrontOf, IsRead};
+ghost use Rattle.bvd_top.specs.Reading.{IsFrontOf, IsRead, IsWithin, AreRead};
+ghost use Rattle.bvd_top.specs.Stated.{most_bytes};
 
+use crate::keeping::keep;
 use crate::stop::Stop;
 use bvd_host::{KeepStop, Keeper};
 use std::alloc::Global;
@@ -15,6 +17,16 @@ pub enum FileRead {
     TooLong,
     Bytes(Vec<u8>),
 }
+
+/// A file of the run, as it was read: its name as the words have it, and what was read of it.
+#[derive(Drop)]
+pub struct Read<'a> {
+    pub path: &'a str,
+    pub content: FileRead,
+}
+
+/// The most bytes of a file.
+const MOST_BYTES: u64 = 4_194_304;
 
 /// Reads a piece more, of at most 4,096 bytes, and answers how many bytes it has.
 fn read_piece<K: Keeper>(
@@ -72,13 +84,14 @@ fn read_bytes<K: Keeper>(
 
 /// Reads a file of at most `most` bytes.
 /// Errors: the keeper failed, or want of memory. Cost: linear in the file, which is read once.
-pub fn read_file<K: Keeper>(
+fn read_file<K: Keeper>(
     alloc: Global,
     keeper: &mut K,
     name: &str,
     most: u64,
 ) -> Result<FileRead, Stop>
     ensures read { IfOk result (λ r. IsRead most (K.files keeper.old) (Rose (K.missing keeper.old) (K.missing keeper.new)) name.now r) }
+    ensures within { IfOk result (λ r. IsWithin most r) }
     ensures files { K.files keeper.new ≡ K.files keeper.old }
     ensures missing { K.missing keeper.old ≤ K.missing keeper.new }
     ensures cause { HasCause Stop.Device (K.faults keeper.old) (K.faults keeper.new) result }
@@ -90,4 +103,31 @@ pub fn read_file<K: Keeper>(
         Err(KeepStop::Failed) => Err(Stop::Device),
         Err(KeepStop::Memory(_)) => Err(Stop::Memory),
     }
+}
+
+/// Reads the files of these names, in order. One of more than 4,194,304 bytes isn't read.
+/// Errors: the keeper failed, or want of memory. Cost: linear in the files, each of which is read once.
+pub fn read_all<'a, K: Keeper>(
+    alloc: Global,
+    keeper: &mut K,
+    names: &[&'a str],
+) -> Result<Vec<Read<'a>>, Stop>
+    ensures read { IfOk result (λ reads. AreRead most_bytes (K.files keeper.old) (Rose (K.missing keeper.old) (K.missing keeper.new)) (map (λ n. n.now) names.now) reads.items) }
+    ensures within { IfOk result (λ reads. All (λ r. IsWithin most_bytes r.content) reads.items) }
+    ensures files { K.files keeper.new ≡ K.files keeper.old }
+    ensures missing { K.missing keeper.old ≤ K.missing keeper.new }
+    ensures cause { HasCause Stop.Device (K.faults keeper.old) (K.faults keeper.new) result }
+{
+    let mut reads = Vec::new(alloc);
+    'names: for name in names {
+        let content = read_file(alloc, keeper, name, MOST_BYTES)?;
+        keep(
+            &mut reads,
+            Read {
+                path: *name,
+                content,
+            },
+        )?;
+    }
+    Ok(reads)
 }

@@ -1,45 +1,70 @@
 //! The call that does all that the program does on one thread.
-ghost use Rattle.std.specs.Prelude.{◌≡◌, ◌≤◌, map, string_bytes, length, option_map, IfOk, OnErr, ◌<◌, ◌++◌, take, ℕ, ◌≢◌, List, None};
+ghost use Rattle.std.specs.Prelude.{◌≡◌, ◌≤◌, ◌<◌, ◌++◌, ◌≢◌, ℕ, All, List, None, map, string_bytes, length, take, option_map, IfOk, OnErr};
 ghost use Rattle.bvd_host.specs.Files.{Files};
 ghost use Rattle.bvd_host.specs.Causes.{Rose, HasCause};
 ghost use Rattle.bvd_host.specs.Outside.{outside, CountsStay, IsHonest};
 ghost use Rattle.bvd_words.specs.Asked.{request_shown};
-ghost use Rattle.bvd_report.specs.Report.{all_goals};
-ghost use Rattle.bvd_report.specs.Shown.{parts_shown};
-ghost use Rattle.bvd_top.specs.Parts.{ArePartsOf};
+ghost use Rattle.bvd_top.specs.Parts.{AreFound};
+ghost use Rattle.bvd_top.specs.Stated.{IsSmall, AreStated};
+ghost use Rattle.bvd_top.specs.Shown.{stated_shown, files_shown};
+ghost use Rattle.bvd_top.specs.Parsed.{IsOfFile};
 ghost use Rattle.bvd_words.specs.Requests.{request_of};
 ghost use Rattle.bvd_top.specs.Words.{usage};
-ghost use Rattle.bvd_top.specs.Ending.{Ending, Answered, Does, IsFaultTold, status_in};
+ghost use Rattle.bvd_top.specs.Ending.{Ending, Answered, Finishes, Does, IsFaultTold, status_in};
 
-use crate::finding::find_all;
-use crate::replying::reply_all;
+use crate::answering::answer_all;
+use crate::parsing::{File, parse_all};
+use crate::reading::read_all;
 use crate::stop::Stop;
 use crate::storing::store_certificates;
 use crate::telling::tell;
 use bvd_host::{Keeper, Sink};
-use bvd_report::{Part, report, status_of};
+use bvd_report::{report, status_of};
 use bvd_words::{Request, read_words};
 use std::alloc::{AllocError, Global};
 
-/// What became of each file: all files are read, and then their goals are replied to.
-fn parts_of<'a, K: Keeper>(
+/// The files of a request with what they state: all are read, and then they are parsed.
+fn files_of<'a, K: Keeper>(
     alloc: Global,
     request: &Request<'a>,
     keeper: &mut K,
-) -> Result<Vec<Part<'a>>, Stop>
-    requires few { length request.now.files.items ≤ 64 }
-    requires budget { request.now.steps ≤ 1000000000 }
-    ensures found { IfOk result (λ parts. ArePartsOf (K.files keeper.old) (Rose (K.missing keeper.old) (K.missing keeper.new)) (request_shown request.now) (parts_shown parts.items)) }
-    ensures few { IfOk result (λ parts. length (all_goals (parts_shown parts.items)) ≤ 65536) }
+) -> Result<Vec<File<'a>>, Stop>
+    ensures stated { IfOk result (λ files. AreStated (K.files keeper.old) (Rose (K.missing keeper.old) (K.missing keeper.new)) (request_shown request.now).files (files_shown files.items)) }
+    ensures small { IfOk result (λ files. All (λ f. IsSmall (stated_shown f.stated)) files.items) }
+    ensures of_file { IfOk result (λ files. All (λ f. IsOfFile f.stated) files.items) }
+    ensures count { IfOk result (λ files. length files.items ≡ length request.now.files.items) }
     ensures files { K.files keeper.new ≡ K.files keeper.old }
     ensures missing { K.missing keeper.old ≤ K.missing keeper.new }
     ensures cause { HasCause Stop.Device (K.faults keeper.old) (K.faults keeper.new) result }
 {
-    let reads = find_all(alloc, keeper, &request.files)?;
-    reply_all(alloc, keeper, request, reads)
+    let reads = read_all(alloc, keeper, &request.files)?;
+    Ok(parse_all(alloc, &reads)?)
 }
 
-/// Does what is asked: reads the files and replies to their goals, then writes the certificates, then the report.
+/// Does what is asked with files whose goals are known: answers these, then writes the certificates, then the report.
+fn finish<K: Keeper, S: Sink>(
+    alloc: Global,
+    request: &Request<'_>,
+    files: &[File<'_>],
+    keeper: &mut K,
+    out: &mut S,
+) -> Result<u8, Stop>
+    requires budget { request.now.steps ≤ 1000000000 }
+    requires small { All (λ f. IsSmall (stated_shown f.stated)) files.now }
+    requires of_file { All (λ f. IsOfFile f.stated) files.now }
+    requires few { length files.now ≤ 64 }
+    ensures counts { CountsStay (outside K.files K.faults K.missing S.written S.faults keeper.old out.old) (outside K.files K.faults K.missing S.written S.faults keeper.new out.new) }
+    ensures ending { Finishes (AreFound (request_shown request.now) (K.files keeper.old) (Rose (K.missing keeper.old) (K.missing keeper.new)) 1 (files_shown files.now)) (request_shown request.now)
+        (outside K.files K.faults K.missing S.written S.faults keeper.old out.old) (outside K.files K.faults K.missing S.written S.faults keeper.new out.new) (status_in result) }
+{
+    let parts = answer_all(alloc, keeper, request, files)?;
+    let text = report(alloc, request, &parts)?;
+    store_certificates(keeper, &parts)?;
+    tell(out, &text)?;
+    Ok(status_of(&parts))
+}
+
+/// Does what is asked. The goals stay where they are until the run is done, and what is told of them borrows them.
 fn answer<K: Keeper, S: Sink>(
     alloc: Global,
     request: &Request<'_>,
@@ -51,12 +76,10 @@ fn answer<K: Keeper, S: Sink>(
     ensures counts { CountsStay (outside K.files K.faults K.missing S.written S.faults keeper.old out.old) (outside K.files K.faults K.missing S.written S.faults keeper.new out.new) }
     ensures ending { Answered (request_shown request.now) (outside K.files K.faults K.missing S.written S.faults keeper.old out.old) (outside K.files K.faults K.missing S.written S.faults keeper.new out.new) (status_in result) }
 {
-    let parts = parts_of(alloc, request, keeper)?;
-    let text = report(alloc, request, &parts)?;
-    store_certificates(alloc, keeper, &parts)?;
-    tell(out, &text)?;
-    Ok(status_of(&parts))
+    let files = files_of(alloc, request, keeper)?;
+    finish(alloc, request, &files, keeper, out)
 }
+
 /// The usage, as bytes.
 const USAGE: &[u8] = b"usage: bvd COMMAND [OPTIONS] FILE..\n";
 
@@ -101,7 +124,7 @@ fn end<K: Keeper, S: Sink>(alloc: Global, words: &[String], keeper: &mut K, out:
 /// | 1 | exactly where a goal is false or a certificate is refused |
 /// | 2 | exactly where the words are refused: the usage is told, and nothing is asked of the keeper |
 /// | 3 | exactly where a goal's steps are spent, or its circuit is too deep or too large |
-/// | 4 | exactly where a file or a certificate is absent, or a file isn't in the form |
+/// | 4 | exactly where a file is absent, too long or faulty, or a certificate is absent |
 /// | 6 | exactly where the keeper's or the sink's count of faults rose in this call, or stood at its end |
 /// | 7 | for want of memory, and for no other cause |
 ///

@@ -1,17 +1,18 @@
 //! The certificates of a run are written in order of goals, so that after a failure those of the first goals are whole and the others aren't begun.
-ghost use Rattle.std.specs.Prelude.{◌≡◌, ◌+◌, ◌<◌, ◌^◌, option_map, OnOk, OnErr, length, []};
+ghost use Rattle.std.specs.Prelude.{◌≡◌, ◌∷◌, [], option_map, OnOk, OnErr};
+ghost use Rattle.std.specs.Option.{option_copied};
 ghost use Rattle.bvd_host.specs.Files.{with_file};
 ghost use Rattle.bvd_host.specs.Causes.{HasCause};
 ghost use Rattle.cert_store.specs.CutShort.{IsCutShort};
-ghost use Rattle.bvd_report.specs.Report.{all_goals, certificates, certificates_from, with_certificate};
-ghost use Rattle.bvd_report.specs.Shown.{lines_shown, parts_shown, told_shown};
-ghost use Rattle.bvd_top.specs.Storing.{IsPartlyStored, with_all};
+ghost use Rattle.bvd_report.specs.Report.{certificates, certificates_of};
+ghost use Rattle.bvd_report.specs.Shown.{told_shown, line_shown, lines_shown, parts_shown};
+ghost use Rattle.bvd_top.specs.Storing.{IsPartlyStored, text_of, with_all};
 
 use crate::stop::Stop;
 use bvd_host::Keeper;
-use bvd_report::{Line, Part, Told, certificate_name, goals_of};
+use bvd_report::{Line, Part, Told, goals_of};
 use cert_store::{StoreStop, put};
-use std::alloc::Global;
+use goal_reply::{Outcome, Reply};
 
 /// Writes a file. After an error it holds what it held before, or a beginning of the bytes.
 fn store<K: Keeper>(keeper: &mut K, name: &str, bytes: &[u8]) -> Result<(), Stop>
@@ -27,44 +28,44 @@ fn store<K: Keeper>(keeper: &mut K, name: &str, bytes: &[u8]) -> Result<(), Stop
     }
 }
 
-/// Writes the certificate of a goal, where it is proved.
-fn store_goal<K: Keeper>(
-    alloc: Global,
-    keeper: &mut K,
-    number: usize,
-    told: &Told,
-) -> Result<(), Stop>
-    ensures ok { OnOk result (K.files keeper.new ≡ option_map (with_all (with_certificate number (told_shown told.now) [])) (K.files keeper.old)) }
-    ensures err { OnErr result (IsPartlyStored (with_certificate number (told_shown told.now) []) (K.files keeper.old) (K.files keeper.new)) }
-    ensures missing { K.missing keeper.new ≡ K.missing keeper.old }
-    ensures cause { HasCause Stop.Device (K.faults keeper.old) (K.faults keeper.new) result }
+/// The text of the certificate by which a goal is told proved.
+fn certificate_text(told: &Told) -> Option<&[u8]>
+    ensures { option_copied result ≡ text_of (told_shown told.now) }
 {
     match told {
-        Told::Proved(text) => {
-            let name = certificate_name(alloc, number)?;
-            store(keeper, name.as_str(), text)
-        }
-        _ => Ok(()),
+        Told::Outcome(Outcome::Replied(Reply::Proved(text))) => Some(text.as_slice()),
+        Told::Outcome(
+            Outcome::Replied(
+                Reply::False(_) | Reply::Budget(_) | Reply::Deep | Reply::Large | Reply::Memory,
+            ),
+        ) => None,
+        Told::Outcome(Outcome::Full | Outcome::Cancelled(_)) => None,
+        Told::Replayed(_) | Told::AbsentCertificate | Told::Clauses(_) | Told::Nothing => None,
     }
 }
 
-/// Writes the certificates of a file's goals, numbered from `first` on.
-fn store_goals<K: Keeper>(
-    alloc: Global,
-    keeper: &mut K,
-    first: usize,
-    goals: &[Line],
-) -> Result<(), Stop>
-    requires { first + length goals.now < 2 ^ 64 }
-    ensures ok { OnOk result (K.files keeper.new ≡ option_map (with_all (certificates_from first (lines_shown goals.now))) (K.files keeper.old)) }
-    ensures err { OnErr result (IsPartlyStored (certificates_from first (lines_shown goals.now)) (K.files keeper.old) (K.files keeper.new)) }
+/// Writes the certificate of a goal, where it is proved.
+fn store_line<K: Keeper>(keeper: &mut K, line: &Line<'_>) -> Result<(), Stop>
+    ensures ok { OnOk result (K.files keeper.new ≡ option_map (with_all (certificates_of (line_shown line.now ∷ []))) (K.files keeper.old)) }
+    ensures err { OnErr result (IsPartlyStored (certificates_of (line_shown line.now ∷ [])) (K.files keeper.old) (K.files keeper.new)) }
     ensures missing { K.missing keeper.new ≡ K.missing keeper.old }
     ensures cause { HasCause Stop.Device (K.faults keeper.old) (K.faults keeper.new) result }
 {
-    let mut number = first;
-    'goals: for line in goals {
-        store_goal(alloc, keeper, number, &line.told)?;
-        number += 1;
+    match certificate_text(&line.told) {
+        Some(text) => store(keeper, line.certificate.as_str(), text),
+        None => Ok(()),
+    }
+}
+
+/// Writes the certificates of a file's goals.
+fn store_lines<K: Keeper>(keeper: &mut K, lines: &[Line<'_>]) -> Result<(), Stop>
+    ensures ok { OnOk result (K.files keeper.new ≡ option_map (with_all (certificates_of (lines_shown lines.now))) (K.files keeper.old)) }
+    ensures err { OnErr result (IsPartlyStored (certificates_of (lines_shown lines.now)) (K.files keeper.old) (K.files keeper.new)) }
+    ensures missing { K.missing keeper.new ≡ K.missing keeper.old }
+    ensures cause { HasCause Stop.Device (K.faults keeper.old) (K.faults keeper.new) result }
+{
+    'lines: for line in lines {
+        store_line(keeper, line)?;
     }
     Ok(())
 }
@@ -72,22 +73,14 @@ fn store_goals<K: Keeper>(
 /// Writes the certificates of the goals that are proved, in order. After an error those before some goal are written,
 /// that goal's is perhaps begun, and the others aren't.
 /// Errors: the keeper failed, or want of memory. Cost: linear in the certificates' bytes.
-pub fn store_certificates<K: Keeper>(
-    alloc: Global,
-    keeper: &mut K,
-    parts: &[Part<'_>],
-) -> Result<(), Stop>
-    requires { length (all_goals (parts_shown parts.now)) < 2 ^ 63 }
+pub fn store_certificates<K: Keeper>(keeper: &mut K, parts: &[Part<'_>]) -> Result<(), Stop>
     ensures ok { OnOk result (K.files keeper.new ≡ option_map (with_all (certificates (parts_shown parts.now))) (K.files keeper.old)) }
     ensures err { OnErr result (IsPartlyStored (certificates (parts_shown parts.now)) (K.files keeper.old) (K.files keeper.new)) }
     ensures missing { K.missing keeper.new ≡ K.missing keeper.old }
     ensures cause { HasCause Stop.Device (K.faults keeper.old) (K.faults keeper.new) result }
 {
-    let mut number = 1usize;
     'parts: for part in parts {
-        let goals = goals_of(&part.found);
-        store_goals(alloc, keeper, number, goals)?;
-        number += goals.len();
+        store_lines(keeper, goals_of(&part.found))?;
     }
     Ok(())
 }

@@ -95,97 +95,21 @@ const SUM: &[u8] = b"example : 5#8 + 251#8 = 0#8 := by bv_decide";
 const TWO: &[u8] =
     b"example : 5#8 + 251#8 = 0#8 := by bv_decide\n\nexample : 65535#16 = 65535#16 := by bv_decide\n";
 
-#[test]
-fn goals_and_faults_of_a_file(rt: HostRuntime) {
-    let rows: [(Option<&[u8]>, u8, &[u8], bool); 8] = [
-        (
-            Some(SUM),
-            0,
-            b"file a.lean\n1. example: proved goal-1.lrat\ngoals: 1 proved, 0 false, 0 other\n",
-            true,
-        ),
-        (
-            Some(b"example : 12#4 &&& 10#4 = 9#4 := by bv_decide"),
-            1,
-            b"file a.lean\n1. example: false\ngoals: 0 proved, 1 false, 0 other\n",
-            false,
-        ),
-        (
-            Some(b""),
-            0,
-            b"file a.lean\ngoals: 0 proved, 0 false, 0 other\n",
-            false,
-        ),
-        (
-            Some(b"theorem f (a : Bool) : a = true := by bv_decide"),
-            1,
-            b"file a.lean\n1. f: false a = false\ngoals: 0 proved, 1 false, 0 other\n",
-            false,
-        ),
-        (
-            None,
-            4,
-            b"file a.lean: absent\ngoals: 0 proved, 0 false, 0 other\n",
-            false,
-        ),
-        (
-            Some(b"example : 1#4 = 1#8 := by bv_decide"),
-            4,
-            b"file a.lean: not yet\ngoals: 0 proved, 0 false, 0 other\n",
-            false,
-        ),
-        (
-            Some(b"example : 1#129 = 1#129 := by bv_decide"),
-            4,
-            b"file a.lean: not yet\ngoals: 0 proved, 0 false, 0 other\n",
-            false,
-        ),
-        (
-            Some(
-                b"example : 340282366920938463463374607431768211455#128 + 1#128 = 0#128 := by bv_decide",
-            ),
-            0,
-            b"file a.lean\n1. example: proved goal-1.lrat\ngoals: 1 proved, 0 false, 0 other\n",
-            true,
-        ),
-    ];
-    for (file, status, report, proved) in rows {
-        let ran = run(rt.alloc(), &PROVE, file, NOTHING_FAILS).expect(&rt, "memory");
-        assert_eq!(rt; ran.status, status);
-        assert!(rt; ran.report.as_slice() == report);
-        assert!(rt; ran.first.is_some() == proved);
-        if let Some(text) = &ran.first {
-            assert!(rt; text.as_slice() == CERTIFICATE);
-        }
-    }
-}
-
-#[test]
-fn failing_devices_leave_what_was_done_before(rt: HostRuntime) {
-    // Which call of a kind fails; the status; how many bytes are told, and how many of each certificate are there.
-    let rows: [(u64, u64, u64, u8, bool, Option<usize>, Option<usize>); 9] = [
-        (1, 0, 0, 6, false, None, None),
-        (2, 0, 0, 6, false, None, None),
-        (3, 0, 0, 0, true, Some(10), Some(10)),
-        (0, 1, 0, 6, false, None, None),
-        (0, 2, 0, 6, false, Some(0), None),
-        (0, 3, 0, 6, false, Some(10), None),
-        (0, 4, 0, 6, false, Some(10), Some(0)),
-        (0, 0, 1, 6, false, Some(10), Some(10)),
-        (0, 0, 2, 0, true, Some(10), Some(10)),
-    ];
-    for (read, write, told, status, whole, first, second) in rows {
-        let failing = Failing { read, write, told };
-        let ran = run(rt.alloc(), &PROVE, Some(TWO), failing).expect(&rt, "memory");
-        assert_eq!(rt; ran.status, status);
-        assert!(rt; ran.report.is_empty() != whole);
-        assert_eq!(rt; ran.first.as_ref().map(|text| text.len()), first);
-        assert_eq!(rt; ran.second.as_ref().map(|text| text.len()), second);
-    }
-}
-
 /// What a run over one file tells: the words, the file, the status and the report.
 type Told<'a> = (&'a [&'a str], &'a [u8], u8, &'a [u8]);
+
+/// Whether each run tells what its row says.
+fn all_tell(alloc: Global, rows: &[Told<'_>]) -> Result<bool, AllocError> {
+    for (words, file, status, report) in rows {
+        let ran = run(alloc, words, Some(file), NOTHING_FAILS)?;
+        if ran.status != *status || ran.report.as_slice() != *report {
+            return Ok(false);
+        }
+    }
+    Ok(true)
+}
+
+const ALONE: [&str; 2] = ["alone", "a.lean"];
 
 const EQUAL: &[u8] = b"theorem n (a b : Bool) : a = b := by bv_decide\n";
 
@@ -193,8 +117,14 @@ const ASSOCIATIVE: &[u8] =
     b"theorem t (a b c : Bool) : (a && (b && c)) = ((a && b) && c) := by bv_decide\n";
 
 #[test]
-fn searches_within_their_budgets(rt: HostRuntime) {
-    let rows: [Told<'_>; 8] = [
+fn searches_tell_their_answers(rt: HostRuntime) {
+    let rows: [Told<'_>; 12] = [
+        (
+            &PROVE,
+            SUM,
+            0,
+            b"file a.lean\n1. example: proved goal-1.lrat\ngoals: 1 proved, 0 false, 0 other\n",
+        ),
         (
             &["prove", "--steps", "1", "a.lean"],
             SUM,
@@ -206,6 +136,12 @@ fn searches_within_their_budgets(rt: HostRuntime) {
             SUM,
             0,
             b"file a.lean\n1. example: proved goal-1.lrat\ngoals: 1 proved, 0 false, 0 other\n",
+        ),
+        (
+            &PROVE,
+            b"theorem f (a : Bool) : a = true := by bv_decide",
+            1,
+            b"file a.lean\n1. f: false a = false\ngoals: 0 proved, 1 false, 0 other\n",
         ),
         (
             &["alone", "--steps", "6", "a.lean"],
@@ -232,10 +168,89 @@ fn searches_within_their_budgets(rt: HostRuntime) {
             b"file a.lean\n1. t: budget 27\ngoals: 0 proved, 0 false, 1 other\n",
         ),
         (
-            &["prove", "--quiet", "a.lean", "b.lean"],
-            SUM,
+            &ALONE,
+            b"theorem b (x : BitVec 8) : x \xe2\x89\xa4 x + 1 := by bv_decide",
+            1,
+            b"file a.lean\n1. b: false x = 0xff#8\ngoals: 0 proved, 1 false, 0 other\n",
+        ),
+        (
+            &PROVE,
+            b"theorem z (x : BitVec 8) : x / 0 = 0 := by bv_decide\ntheorem r (x : BitVec 8) : x % 0 = x := by bv_decide",
+            0,
+            b"file a.lean\n1. z: proved goal-1.lrat\n2. r: proved goal-2.lrat\ngoals: 2 proved, 0 false, 0 other\n",
+        ),
+        (
+            &PROVE,
+            b"example : (128#8).sdiv 255#8 = 128#8 := by bv_decide\nexample : (249#8).srem 3#8 = 255#8 := by bv_decide\nexample : (249#8).smod 3#8 = 2#8 := by bv_decide",
+            0,
+            b"file a.lean\n1. example: proved goal-1.lrat\n2. example: proved goal-2.lrat\n3. example: proved goal-3.lrat\ngoals: 3 proved, 0 false, 0 other\n",
+        ),
+        (
+            &PROVE,
+            b"example : 300#8 = 44#8 := by bv_decide\nexample : (0x81#8).rotateLeft 9 = 0x03#8 := by bv_decide\nexample : (0x80#8).sshiftRight 200 = 0xff#8 := by bv_decide",
+            0,
+            b"file a.lean\n1. example: proved goal-1.lrat\n2. example: proved goal-2.lrat\n3. example: proved goal-3.lrat\ngoals: 3 proved, 0 false, 0 other\n",
+        ),
+    ];
+    assert!(rt; all_tell(rt.alloc(), &rows).expect(&rt, "memory"));
+}
+
+#[test]
+fn faults_clauses_and_goals_are_told(rt: HostRuntime) {
+    let rows: [Told<'_>; 11] = [
+        (
+            &PROVE,
+            b"",
+            0,
+            b"file a.lean\ngoals: 0 proved, 0 false, 0 other\n",
+        ),
+        (
+            &PROVE,
+            b"theorem w (x : BitVec 129) : x = x := by bv_decide",
             4,
-            b"file b.lean: absent\ngoals: 1 proved, 0 false, 0 other\n",
+            b"file a.lean: limit width 1:23\ngoals: 0 proved, 0 false, 0 other\n",
+        ),
+        (
+            &PROVE,
+            b"theorem w (x : BitVec 0) : x = x := by bv_decide",
+            4,
+            b"file a.lean: limit width 1:23\ngoals: 0 proved, 0 false, 0 other\n",
+        ),
+        (
+            &PROVE,
+            b"theorem w (x : BitVec 128) : x = x := by bv_decide",
+            0,
+            b"file a.lean\n1. w: proved goal-1.lrat\ngoals: 1 proved, 0 false, 0 other\n",
+        ),
+        (
+            &PROVE,
+            b"theorem w (x : BitVec 65) : x ++ x = x ++ x := by bv_decide",
+            4,
+            b"file a.lean: limit width 1:31\ngoals: 0 proved, 0 false, 0 other\n",
+        ),
+        (
+            &PROVE,
+            b"theorem p (x y : BitVec 1) : x + y = x ^^^ y := by bv_decide",
+            0,
+            b"file a.lean\n1. p: proved goal-1.lrat\ngoals: 1 proved, 0 false, 0 other\n",
+        ),
+        (
+            &PROVE,
+            b"theorem c (a b c : Bool) : a = b = c := by bv_decide",
+            4,
+            b"file a.lean: syntax 1:34\ngoals: 0 proved, 0 false, 0 other\n",
+        ),
+        (
+            &PROVE,
+            b"example : 1 = 1 := by bv_decide",
+            4,
+            b"file a.lean: type 1:13\ngoals: 0 proved, 0 false, 0 other\n",
+        ),
+        (
+            &PROVE,
+            b"example : 1 = $ := by bv_decide",
+            4,
+            b"file a.lean: lex 1:15\ngoals: 0 proved, 0 false, 0 other\n",
         ),
         (
             &["cnf", "a.lean"],
@@ -243,30 +258,66 @@ fn searches_within_their_budgets(rt: HostRuntime) {
             0,
             b"c 1 n\np cnf 6 11\n1 0\n-4 2 0\n-4 3 0\n4 -2 -3 0\n-5 -2 0\n-5 -3 0\n5 2 3 0\n-6 -4 0\n-6 -5 0\n6 4 5 0\n6 0\n",
         ),
+        (
+            &["show", "a.lean"],
+            b"theorem s (x : BitVec 8) (h : x > 3) : \xc2\xac x = 0 := by bv_decide",
+            0,
+            b"theorem s (x : BitVec 8) (h : (0x03#8 < x)) : (!(x = 0x00#8)) := by bv_decide\n",
+        ),
     ];
-    for (words, file, status, report) in rows {
-        let ran = run(rt.alloc(), words, Some(file), NOTHING_FAILS).expect(&rt, "memory");
+    assert!(rt; all_tell(rt.alloc(), &rows).expect(&rt, "memory"));
+}
+
+#[test]
+fn failing_devices_leave_what_was_done_before(rt: HostRuntime) {
+    // Which call of a kind fails; the status; how many bytes are told, and how many of each certificate are there.
+    let rows: [(u64, u64, u64, u8, bool, Option<usize>, Option<usize>); 9] = [
+        (1, 0, 0, 6, false, None, None),
+        (2, 0, 0, 6, false, None, None),
+        (3, 0, 0, 0, true, Some(10), Some(10)),
+        (0, 1, 0, 6, false, None, None),
+        (0, 2, 0, 6, false, Some(0), None),
+        (0, 3, 0, 6, false, Some(10), None),
+        (0, 4, 0, 6, false, Some(10), Some(0)),
+        (0, 0, 1, 6, false, Some(10), Some(10)),
+        (0, 0, 2, 0, true, Some(10), Some(10)),
+    ];
+    for (read, write, told, status, whole, first, second) in rows {
+        let failing = Failing { read, write, told };
+        let ran = run(rt.alloc(), &PROVE, Some(TWO), failing).expect(&rt, "memory");
         assert_eq!(rt; ran.status, status);
-        assert!(rt; ran.report.as_slice() == report);
+        assert!(rt; ran.report.is_empty() != whole);
+        assert_eq!(rt; ran.first.as_ref().map(|text| text.len()), first);
+        assert_eq!(rt; ran.second.as_ref().map(|text| text.len()), second);
     }
 }
 
 #[test]
 fn goals_are_numbered_through_all_files(rt: HostRuntime) {
-    let files: [File<'_>; 2] = [
-        ("a.lean", EQUAL),
+    let rows: [(&[File<'_>], u8, &[u8]); 2] = [
         (
-            "b.lean",
-            b"theorem m (p q : Bool) : p = q := by bv_decide\n",
+            &[
+                ("a.lean", EQUAL),
+                (
+                    "b.lean",
+                    b"theorem m (p q : Bool) : p = q := by bv_decide\n",
+                ),
+            ],
+            1,
+            b"file a.lean\n1. n: false a = false, b = true\nfile b.lean\n2. m: false p = false, q = true\ngoals: 0 proved, 2 false, 0 other\n",
+        ),
+        (
+            &[("a.lean", SUM)],
+            4,
+            b"file a.lean\n1. example: proved goal-1.lrat\nfile b.lean: absent\ngoals: 1 proved, 0 false, 0 other\n",
         ),
     ];
-    let words: [&str; 3] = ["prove", "a.lean", "b.lean"];
-    let ran = run_over(rt.alloc(), &words, &files, NOTHING_FAILS).expect(&rt, "memory");
-    assert_eq!(rt; ran.status, 1);
-    assert!(rt;
-        ran.report.as_slice()
-            == b"file a.lean\n1. n: false a = false, b = true\nfile b.lean\n2. m: false p = false, q = true\ngoals: 0 proved, 2 false, 0 other\n".as_slice()
-    );
+    for (files, status, report) in rows {
+        let words: [&str; 3] = ["prove", "a.lean", "b.lean"];
+        let ran = run_over(rt.alloc(), &words, files, NOTHING_FAILS).expect(&rt, "memory");
+        assert_eq!(rt; ran.status, status);
+        assert!(rt; ran.report.as_slice() == report);
+    }
 }
 
 /// The certificate of the associativity of three conjunctions.
@@ -281,7 +332,18 @@ const HINT_LESS: &[u8] =
 fn stored_certificates_are_checked(rt: HostRuntime) {
     let proved = run(rt.alloc(), &PROVE, Some(ASSOCIATIVE), NOTHING_FAILS).expect(&rt, "memory");
     assert!(rt; proved.first.is_some_and(|text| text.as_slice() == LINES));
-    let rows: [(&[File<'_>], u8, &[u8]); 4] = [
+    let rows: [(&[File<'_>], u8, &[u8]); 5] = [
+        (
+            &[
+                (
+                    "a.lean",
+                    b"example : 5#8 + 251#8 = 0#8 := by bv_check \"sum.lrat\"",
+                ),
+                ("sum.lrat", CERTIFICATE),
+            ],
+            0,
+            b"file a.lean\n1. example: accepted sum.lrat\ngoals: 1 accepted, 0 refused, 0 other\n",
+        ),
         (
             &[("a.lean", ASSOCIATIVE), ("goal-1.lrat", LINES)],
             0,
@@ -403,7 +465,7 @@ fn a_file_above_the_sizes_is_not_read(rt: HostRuntime) -> Result<(), AllocError>
         told: 0,
     };
     let mut file = Vec::new(rt.alloc());
-    for _ in 0..65_536 {
+    for _ in 0..4_194_304 {
         file.push(b'\n')?;
     }
     let ran = run(rt.alloc(), &PROVE, Some(&file), second_read_fails)?;

@@ -1,46 +1,24 @@
-use Rattle.std.proofs.Common.{Err, inl, inr, ◌∙◌, refl, ap, subst}
-use Rattle.std.specs.Prelude.{option_map}
-use Rattle.std.proofs.lemmas.Result.{err_from_is_err_and}
+use Rattle.std.proofs.Common.{subst, refl, sym, List}
+use Rattle.bvd_host.specs.Causes.{Rose}
 use Rattle.bvd_words.specs.Asked.{request_shown}
-use Rattle.bvd_report.specs.Report.{certificates, report, status_of}
-use Rattle.bvd_report.specs.Shown.{parts_shown}
-use Rattle.bvd_top.specs.Storing.{IsPartlyStored, with_all}
-use Rattle.bvd_top.specs.Ending.{status_in}
-use Rattle.bvd_top.proofs.Endings.{unstored, reported, stopped}
+use Rattle.bvd_top.specs.Stated.{AreStated}
+use Rattle.bvd_top.specs.Parts.{AreFound, ArePartsOf}
+use Rattle.bvd_top.specs.Shown.{files_shown}
+use Rattle.bvd_top.specs.declared.parsing.File.{File}
+use Rattle.bvd_top.proofs.Endings.{goes_on, parts_found}
 use Rattle.bvd_top.proofs.run.answer.Goals as goal
-
-pub returns-in_err-store_certificates-clause-ending :
-    goal.returns-in_err-store_certificates-clause-ending
-returns-in_err-store_certificates-clause-ending g c =
-    let p = err_from_is_err_and c.from_residual-in_err-store_certificates.result c.from_residual-in_err-store_certificates.ensures.1 in
-    let stored = subst (λ l. IsPartlyStored (certificates (parts_shown l)) (g.K.Keeper.files c.parts_of.new.keeper) (g.K.Keeper.files c.store_certificates.new.keeper)) c.deref-2.ensures.value c.in_err-store_certificates.ensures.err in
-    let faults = c.in_ok-parts.ensures.cause.spared (λ failed. cc) in
-    rw (p.1, p.2) (unstored (request_shown c.args.request.now) _ _ (g.K.Keeper.files c.parts_of.new.keeper) (g.K.Keeper.missing c.parts_of.new.keeper) (g.K.Keeper.faults c.parts_of.new.keeper)
-    (parts_shown c.in_ok-parts.parts.items) c.in_err-store_certificates.field-0.0 c.in_ok-parts.ensures.found c.in_err-store_certificates.ensures.missing c.in_ok-parts.ensures.files faults
-    stored (record { nothing_told = refl; sink_stays = refl }) c.in_err-store_certificates.ensures.cause)
-
-pub returns-in_err-tell-clause-ending : goal.returns-in_err-tell-clause-ending
-returns-in_err-tell-clause-ending g c =
-    let p = err_from_is_err_and c.from_residual-in_err-tell.result c.from_residual-in_err-tell.ensures.1 in
-    let text = c.deref-3.ensures.value ∙ c.in_ok-text.ensures ∙ ap (λ l. report (request_shown c.args.request.now) (parts_shown l)) c.deref.ensures.value in
-    let stored = c.in_ok-store_certificates.ensures.ok ∙ ap (λ l. option_map (with_all (certificates (parts_shown l))) (g.K.Keeper.files c.parts_of.new.keeper)) c.deref-2.ensures.value in
-    let faults = c.in_ok-parts.ensures.cause.spared (λ failed. cc) in
-    let kept = c.in_ok-store_certificates.ensures.cause.spared (λ failed. cc) in
-    let part = c.in_err-tell.ensures.err in
-    rw (p.1, p.2) (reported (request_shown c.args.request.now) _ _ (g.K.Keeper.files c.parts_of.new.keeper) (g.K.Keeper.missing c.parts_of.new.keeper) (g.K.Keeper.faults c.parts_of.new.keeper)
-    (parts_shown c.in_ok-parts.parts.items) c.deref-3.result.now (status_of (parts_shown c.in_ok-parts.parts.items)) (status_in (Err c.in_err-tell.field-0.0)) c.in_ok-parts.ensures.found
-    c.in_ok-store_certificates.ensures.missing c.in_ok-parts.ensures.files stored faults kept text refl
-    (inr (part.0, part.1, part.2, stopped c.in_err-tell.field-0.0 (g.S.Sink.faults c.args.out.now) (g.S.Sink.faults c.tell.new.out) c.in_err-tell.ensures.cause)))
 
 pub returns-clause-ending : goal.returns-clause-ending
 returns-clause-ending g c =
-    let text = c.deref-3.ensures.value ∙ c.in_ok-text.ensures ∙ ap (λ l. report (request_shown c.args.request.now) (parts_shown l)) c.deref.ensures.value in
-    let own = c.status_of.ensures ∙ ap (λ l. status_of (parts_shown l)) c.deref-4.ensures.value in
-    let stored = c.in_ok-store_certificates.ensures.ok ∙ ap (λ l. option_map (with_all (certificates (parts_shown l))) (g.K.Keeper.files c.parts_of.new.keeper)) c.deref-2.ensures.value in
-    let faults = c.in_ok-parts.ensures.cause.spared (λ failed. cc) in
-    let kept = c.in_ok-store_certificates.ensures.cause.spared (λ failed. cc) in
-    let told = c.in_ok-tell.ensures.cause.spared (λ failed. cc) in
-    reported (request_shown c.args.request.now) _ _ (g.K.Keeper.files c.parts_of.new.keeper) (g.K.Keeper.missing c.parts_of.new.keeper) (g.K.Keeper.faults c.parts_of.new.keeper)
-    (parts_shown c.in_ok-parts.parts.items) c.deref-3.result.now c.status_of.result c.status_of.result c.in_ok-parts.ensures.found c.in_ok-store_certificates.ensures.missing c.in_ok-parts.ensures.files
-    stored faults kept text own
-    (inl (c.in_ok-tell.ensures.ok, refl, told))
+    let request = request_shown c.args.request.now in
+    let files = g.K.Keeper.files c.args.keeper.now in
+    let mid = g.K.Keeper.files c.files_of.new.keeper in
+    let m0 = g.K.Keeper.missing c.args.keeper.now in
+    let m1 = g.K.Keeper.missing c.files_of.new.keeper in
+    let m2 = g.K.Keeper.missing c.finish.new.keeper in
+    let stated = files_shown c.deref.result.now in
+    let are = subst (λ (l : List File). AreStated files (Rose m0 m1) request.files (files_shown l)) (sym {A = List File} c.deref.ensures.value) c.in_ok-files.ensures.stated in
+    let faults = c.in_ok-files.ensures.cause.spared (λ failed. cc) in
+    goes_on (λ ps. AreFound request mid (Rose m1 m2) 1 stated ps) (λ ps. ArePartsOf files (Rose m0 m2) request ps) request _ _ _ _
+    (λ parts found. parts_found request files mid m0 m1 m2 stated parts are c.in_ok-files.ensures.files c.in_ok-files.ensures.missing c.finish.ensures.counts.missing found)
+    c.in_ok-files.ensures.files refl faults refl c.finish.ensures.ending

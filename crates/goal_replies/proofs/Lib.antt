@@ -1,4 +1,0 @@
-pub mod Meant
-pub mod Outcomes
-pub mod Kept
-pub mod Verdicts
