@@ -16,79 +16,28 @@ use Rattle.bv_limits.specs.declared.plain.Met.{Met}
 use Rattle.bv_limits.specs.Limits.{IsCountedLimit}
 use Rattle.bv_limits.specs.Files.{IsLeast, IsMetIn}
 use Rattle.bv_limits.proofs.Sooner.{one_least}
-use Rattle.bv_expr.specs.Statement.{Statement}
 use Rattle.bv_typing.specs.declared.misfit.Misfit.{Misfit}
-use Rattle.bv_typing.specs.Goals.{States, file_misfits, least, statement}
-use Rattle.bv_parse.specs.Reads.{terminals_of, place_of, Outlines, IsWithinLimits, ReadsAs, limit_at, IsFaultOf, of_tokens, of_limits, of_counts, of_syntax, of_types}
+use Rattle.bv_typing.specs.Source.{source}
+use Rattle.bv_typing.specs.Goals.{file_misfits, least}
+use Rattle.bv_parse.specs.Reads.{terminals_of, place_of, Outlines, IsWithinLimits, IsSound, limit_at, IsFaultOf, of_tokens, of_limits, of_counts, of_syntax, of_types}
 use Rattle.bv_parse.specs.Laws as laws
 
 -- the laws of the steps
 pub record Steps : Type 0 where
   pub cut : (bytes : List ℕ) → OneCut bytes
-  pub not_both : (ts : List Terminal) (at : ℕ) → grammar.NotBoth ts at
-  pub one_fault : (ts : List Terminal) (at at' : ℕ) → grammar.OneFault ts at at'
-  pub whole : (ts : List Terminal) (gs : List Goal) → trees.IsWhole ts gs
-  pub one : (ts : List Terminal) (gs hs : List Goal) → trees.OneReading ts gs hs
+  pub not_both : (s : Steps) (bytes : List ℕ) (f : Fault) → laws.NotBoth bytes f
 
-same_tokens : (s : Steps) (bytes : List ℕ) (ts us : List Token) → AreTokens bytes ts → AreTokens bytes us → ts ≡ us
-same_tokens s bytes ts us a b = (s.cut bytes ts us None None a b).0
-
-none_is_some : {A : Type 0} {x : A} → None ≡ Some x → ⊥
-none_is_some ()
-
-some_is : {A : Type 0} {x y : A} → Some x ≡ Some y → x ≡ y
-some_is refl = refl
-
-no_token_fault : (s : Steps) (bytes : List ℕ) (ts : List Token) (f : Fault) → AreTokens bytes ts → IsTokenFault bytes f → ⊥
-no_token_fault s bytes ts f a (us, b) = none_is_some ((s.cut bytes ts us None (Some f) a b).1)
-
-same_trees : (s : Steps) (bytes : List ℕ) (tokens : List Token) (gs hs : List Goal) → Outlines bytes tokens gs → Outlines bytes tokens hs → gs ≡ hs
-same_trees s bytes tokens gs hs a b = s.one (terminals_of bytes tokens) gs hs a.goals b.goals
-
-no_syntax : (s : Steps) (bytes : List ℕ) (ts us : List Token) (gs : List Goal) (at : ℕ) → Outlines bytes ts gs → AreTokens bytes us → IsSyntaxFault (terminals_of bytes us) at → ⊥
-no_syntax s bytes ts us gs at o c f =
-    s.not_both (terminals_of bytes us) at (subst (λ xs. IsFile (terminals_of bytes xs)) (same_tokens s bytes ts us o.cut c) (s.whole (terminals_of bytes ts) gs o.goals)) f
-
-least_none : (m : Misfit) (ms : List Misfit) → ms ≡ [] → least ms ≡ Some m → ⊥
-least_none m ms e l = none_is_some (sym (ap least e) ∙ l)
-
--- two whole readings of a file are one
-data Same (bytes : List ℕ) (ts us : List Token) (gs hs : List Goal) : Type 0 where
-  same : ts ≡ us → gs ≡ hs → Same bytes ts us gs hs
-
-one_outline : (s : Steps) (bytes : List ℕ) (ts us : List Token) (gs hs : List Goal) → Outlines bytes ts gs → Outlines bytes us hs → Same bytes ts us gs hs
-one_outline s bytes ts us gs hs o p = go ts us (same_tokens s bytes ts us o.cut p.cut) o p
-  where
-    go : (ts us : List Token) → ts ≡ us → Outlines bytes ts gs → Outlines bytes us hs → Same bytes ts us gs hs
-    go ts ts refl o p = same refl (same_trees s bytes ts gs hs o p)
-
-pub one_reading : (s : Steps) (bytes : List ℕ) (gs hs : List Statement) → laws.OneReading bytes gs hs
-one_reading s bytes gs hs a b = go a.tokens b.tokens a.trees b.trees (one_outline s bytes a.tokens b.tokens a.trees b.trees a.outlines b.outlines) a.states b.states
-  where
-    go : (ts us : List Token) (xs ys : List Goal) → Same bytes ts us xs ys → States (record { bytes = bytes; tokens = ts }) xs gs → States (record { bytes = bytes; tokens = us }) ys hs → gs ≡ hs
-    go ts ts xs xs (same refl refl) u v = u.are ∙ sym v.are
-
-limit_of_none : (p : What → ℕ → Type 0) (m : Met) → IsLeast p None → IsLeast p (Some m) → ⊥
-limit_of_none p m n f = n m.what m.at f.0
-
-abbrev met : (bytes : List ℕ) (ts : List Token) (gs : List Goal) → What → ℕ → Type 0
-met bytes ts gs = IsMetIn ts (terminals_of bytes ts) gs
-
-abbrev counted : (bytes : List ℕ) (ts : List Token) (end : ℕ) → What → ℕ → Type 0
-counted bytes ts end = IsCountedLimit ts (terminals_of bytes ts) end
-
-pub not_both : (s : Steps) (bytes : List ℕ) (gs : List Statement) (f : Fault) → laws.NotBoth bytes gs f
-not_both s bytes gs f a (of_tokens t) = no_token_fault s bytes a.tokens f a.outlines.cut t
-not_both s bytes gs f a (of_limits {ts} {xs} {m} o l) = go a.tokens a.trees (one_outline s bytes a.tokens ts a.trees xs a.outlines o) a.within
+not_both s bytes f a (of_tokens t) = no_token_fault s bytes a.tokens f a.outlines.cut t
+not_both s bytes f a (of_limits {ts} {xs} {m} o l) = go a.tokens a.trees (one_outline s bytes a.tokens ts a.trees xs a.outlines o) a.within
   where
     go : (us : List Token) (ys : List Goal) → Same bytes us ts ys xs → IsWithinLimits bytes us ys → ⊥
     go us ys (same refl refl) w = limit_of_none (met bytes ts xs) m w l
-not_both s bytes gs f a (of_counts {ts} {end} c e l) = no_syntax s bytes a.tokens ts a.trees end a.outlines c e
-not_both s bytes gs f a (of_syntax {ts} {end} c e l) = no_syntax s bytes a.tokens ts a.trees end a.outlines c e
-not_both s bytes gs f a (of_types {ts} {xs} {m} o w l) = go a.tokens a.trees (one_outline s bytes a.tokens ts a.trees xs a.outlines o) a.states
+not_both s bytes f a (of_counts {ts} {end} c e l) = no_syntax s bytes a.tokens ts a.trees end a.outlines c e
+not_both s bytes f a (of_syntax {ts} {end} c e l) = no_syntax s bytes a.tokens ts a.trees end a.outlines c e
+not_both s bytes f a (of_types {ts} {xs} {m} o w l) = go a.tokens a.trees (one_outline s bytes a.tokens ts a.trees xs a.outlines o) a.fit
   where
-    go : (us : List Token) (ys : List Goal) → Same bytes us ts ys xs → States (record { bytes = bytes; tokens = us }) ys gs → ⊥
-    go us ys (same refl refl) st = least_none m (file_misfits (record { bytes = bytes; tokens = ts }) xs) st.fit l
+    go : (us : List Token) (ys : List Goal) → Same bytes us ts ys xs → file_misfits (source bytes us) ys ≡ [] → ⊥
+    go us ys (same refl refl) fit = least_none m (file_misfits (source bytes ts) xs) fit l
 
 abbrev short_fault : List ℕ → List Token → ℕ → Option Met → Fault
 short_fault bytes ts end None = record { kind = kind.Syntax; place = place_of bytes (slice_get ts end) }
@@ -99,7 +48,7 @@ misfit_at bytes ts m = record { kind = m.kind; place = place_of bytes (slice_get
 
 abbrev WholeFault : List ℕ → List Token → List Goal → Option Met → Fault → Type 0
 WholeFault bytes ts gs (Some m) f = f ≡ limit_at bytes ts m
-WholeFault bytes ts gs None f = (m : Misfit) × (least (file_misfits (record { bytes = bytes; tokens = ts }) gs) ≡ Some m) × (f ≡ misfit_at bytes ts m)
+WholeFault bytes ts gs None f = (m : Misfit) × (least (file_misfits (source bytes ts) gs) ≡ Some m) × (f ≡ misfit_at bytes ts m)
 
 -- a fault by how the file ends
 data Kind (bytes : List ℕ) (f : Fault) : Type 0 where
@@ -127,8 +76,10 @@ both_short s bytes f g ts us end end' o q c d e e' l l' h h' = tokens ts us (sam
   where
     limits : (ts : List Token) (end : ℕ) → IsLeast (counted bytes ts end) o → IsLeast (counted bytes ts end) q → f ≡ short_fault bytes ts end o → g ≡ short_fault bytes ts end q → f ≡ g
     limits ts end l l' h h' = h ∙ (ap (short_fault bytes ts end) (one_limit (counted bytes ts end) o q l l') ∙ sym h')
+
     ends : (ts : List Token) (end end' : ℕ) → end ≡ end' → IsLeast (counted bytes ts end) o → IsLeast (counted bytes ts end') q → f ≡ short_fault bytes ts end o → g ≡ short_fault bytes ts end' q → f ≡ g
     ends ts end end refl l l' h h' = limits ts end l l' h h'
+
     tokens : (ts us : List Token) → ts ≡ us → IsSyntaxFault (terminals_of bytes ts) end → IsSyntaxFault (terminals_of bytes us) end' → IsLeast (counted bytes ts end) o → IsLeast (counted bytes us end') q
         → f ≡ short_fault bytes ts end o → g ≡ short_fault bytes us end' q → f ≡ g
     tokens ts ts refl e e' l l' h h' = ends ts end end' (s.one_fault (terminals_of bytes ts) end end' e e') l l' h h'
@@ -143,6 +94,7 @@ both_whole s bytes f g ts us gs hs o q a b l l' h h' = go ts us gs hs (one_outli
   where
     limits : (ts : List Token) (gs : List Goal) (o q : Option Met) → o ≡ q → WholeFault bytes ts gs o f → WholeFault bytes ts gs q g → f ≡ g
     limits ts gs o o refl h h' = one_whole_fault bytes f g ts gs o h h'
+
     go : (ts us : List Token) (gs hs : List Goal) → Same bytes ts us gs hs → IsLeast (met bytes ts gs) o → IsLeast (met bytes us hs) q → WholeFault bytes ts gs o f → WholeFault bytes us hs q g → f ≡ g
     go ts ts gs gs (same refl refl) l l' h h' = limits ts gs o q (one_limit (met bytes ts gs) o q l l') h h'
 

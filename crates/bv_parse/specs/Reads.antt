@@ -1,6 +1,6 @@
--- What a file reads as, and the one fault of a file that reads as nothing. Tokens come first, then limits and the grammar,
--- and types last. A limit stands at a token that is reached, so before the first token that isn't.
-use Rattle.std.specs.Prelude.{◌≡◌, ℕ, List, Option, Some, None, slice_get, map}
+-- Which files are sound, and the one fault of a file that isn't. Tokens come first, then limits and the grammar, and types
+-- last. A limit stands at a token that is reached, so before the first token that isn't.
+use Rattle.std.specs.Prelude.{◌≡◌, ℕ, List, [], Option, Some, None, slice_get, map}
 use Rattle.bvd_text.specs.declared.cursor.Place.{Place}
 use Rattle.bvd_text.specs.Places.{place_behind}
 use Rattle.bv_lex.specs.declared.token.Token.{Token}
@@ -15,9 +15,9 @@ use Rattle.bv_trees.specs.Files.{AreGoals}
 use Rattle.bv_limits.specs.declared.plain.Met.{Met}
 use Rattle.bv_limits.specs.Limits.{IsCountedLimit}
 use Rattle.bv_limits.specs.Files.{IsLeast, IsMetIn}
-use Rattle.bv_expr.specs.Statement.{Statement}
 use Rattle.bv_typing.specs.declared.misfit.Misfit.{Misfit}
-use Rattle.bv_typing.specs.Goals.{States, file_misfits, least}
+use Rattle.bv_typing.specs.Source.{source}
+use Rattle.bv_typing.specs.Goals.{file_misfits, least}
 
 -- the terminals of a file's tokens
 abbrev pub terminals_of : List ℕ → List Token → List Terminal
@@ -37,13 +37,13 @@ pub record Outlines (bytes : List ℕ) (tokens : List Token) (gs : List Goal) : 
 abbrev pub IsWithinLimits : List ℕ → List Token → List Goal → Type 0
 IsWithinLimits bytes tokens gs = IsLeast (IsMetIn tokens (terminals_of bytes tokens) gs) None
 
--- the file reads as goals that state this
-pub record ReadsAs (bytes : List ℕ) (statements : List Statement) : Type 0 where
+-- the file has goals, no limit is met in it, and all its types fit
+pub record IsSound (bytes : List ℕ) : Type 0 where
   pub tokens : List Token
   pub trees : List Goal
   pub outlines : Outlines bytes tokens trees
   pub within : IsWithinLimits bytes tokens trees
-  pub states : States (record { bytes = bytes; tokens = tokens }) trees statements
+  pub fit : file_misfits (source bytes tokens) trees ≡ []
 
 abbrev pub limit_at : List ℕ → List Token → Met → Fault
 limit_at bytes tokens m = record { kind = kind.Limit m.what; place = place_of bytes (slice_get tokens m.at) }
@@ -63,5 +63,5 @@ pub data IsFaultOf (bytes : List ℕ) : Fault → Type 0 where
       → IsFaultOf bytes (record { kind = kind.Syntax; place = place_of bytes (slice_get tokens end) })
   -- a term doesn't fit, the first of all
   of_types : {tokens : List Token} {gs : List Goal} {m : Misfit} → Outlines bytes tokens gs → IsWithinLimits bytes tokens gs
-      → least (file_misfits (record { bytes = bytes; tokens = tokens }) gs) ≡ Some m
+      → least (file_misfits (source bytes tokens) gs) ≡ Some m
       → IsFaultOf bytes (record { kind = m.kind; place = place_of bytes (slice_get tokens m.at) })

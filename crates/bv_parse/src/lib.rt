@@ -1,8 +1,11 @@
-//! Theorem files, from their bytes to goals or the one fault.
+//! Theorem files, from their bytes to their one fault.
 #![tactic(auto)]
 
+mod faults;
 mod laws;
-// mod parse;
 
+pub use faults::find_fault;
 pub use laws::one_answer;
-// pub use parse::parse;
+
+#[cfg(test)]
+mod tests;

@@ -1,4 +1,3 @@
-pub mod Told
 pub mod Least
 pub mod ByParts
 pub mod Judged

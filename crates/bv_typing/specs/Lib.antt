@@ -11,5 +11,3 @@ pub mod Earliest
 pub mod Notes
 pub mod Judging
 pub mod Faults
-pub mod Widths
-pub mod Building

@@ -1,7 +1,6 @@
 //! Types of theorem files: which terms fit together, at which width a bare numeral is read, and what each goal states.
 #![tactic(auto)]
 
-mod building;
 mod faults;
 mod goals;
 mod item;
@@ -18,7 +17,6 @@ mod source;
 mod telling;
 mod variables;
 mod verdicts;
-mod widths;
 
 pub use goals::find_misfit;
 pub use kind::{Kind, Row};

@@ -7,7 +7,6 @@ ghost use Rattle.bv_typing.specs.Readings as spec;
 use crate::kind::Kind;
 use crate::method::Method;
 use crate::note::Note;
-use crate::widths::is_shift;
 use bv_expr::Sort;
 use bv_grammar::Word;
 
@@ -45,6 +44,15 @@ pub(crate) fn either(first: Option<u8>, second: Option<u8>) -> Option<u8>
     match first {
         Some(_) => first,
         None => second,
+    }
+}
+
+fn is_shift(word: Word) -> bool
+    ensures { result ≡ spec.is_shift word }
+{
+    match word {
+        Word::ShiftLeft | Word::ShiftRight => true,
+        _ => false,
     }
 }
 
