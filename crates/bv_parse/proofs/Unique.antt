@@ -1,5 +1,5 @@
 -- Files have one answer, by the laws of the steps that lead to it.
-use Rattle.std.proofs.Common.{◌≡◌, refl, sym, ap, subst, ◌∙◌, ℕ, List, [], Option, Some, None, map}
+use Rattle.std.proofs.Common.{◌≡◌, refl, sym, ap, subst, ◌∙◌, ℕ, List, [], Option, Some, None}
 use Rattle.std.specs.Prelude.{slice_get}
 use Rattle.bv_lex.specs.declared.token.Token.{Token}
 use Rattle.bv_lex.specs.declared.fault.Fault.{Fault}
@@ -11,6 +11,7 @@ use Rattle.bv_grammar.specs.declared.words.Terminal.{Terminal}
 use Rattle.bv_grammar.specs.Derivation.{IsFile, IsSyntaxFault}
 use Rattle.bv_grammar.specs.Laws as grammar
 use Rattle.bv_trees.specs.Trees.{Goal}
+use Rattle.bv_trees.specs.Files.{AreGoals}
 use Rattle.bv_trees.specs.Laws as trees
 use Rattle.bv_limits.specs.declared.plain.Met.{Met}
 use Rattle.bv_limits.specs.Limits.{IsCountedLimit}
@@ -25,19 +26,55 @@ use Rattle.bv_parse.specs.Laws as laws
 -- the laws of the steps
 pub record Steps : Type 0 where
   pub cut : (bytes : List ℕ) → OneCut bytes
-  pub not_both : (s : Steps) (bytes : List ℕ) (f : Fault) → laws.NotBoth bytes f
+  pub not_both : (ts : List Terminal) (at : ℕ) → grammar.NotBoth ts at
+  pub one_fault : (ts : List Terminal) (at at' : ℕ) → grammar.OneFault ts at at'
+  pub whole : (ts : List Terminal) (gs : List Goal) → trees.IsWhole ts gs
+  pub one : (ts : List Terminal) (gs hs : List Goal) → trees.OneReading ts gs hs
 
+same_tokens : (s : Steps) (bytes : List ℕ) (ts us : List Token) → AreTokens bytes ts → AreTokens bytes us → ts ≡ us
+same_tokens s bytes ts us a b = (s.cut bytes ts us None None a b).0
+
+none_is_some : {A : Type 0} (x : A) → None ≡ Some x → ⊥
+none_is_some x e = (cc)
+
+some_is : {A : Type 0} (x y : A) → Some x ≡ Some y → x ≡ y
+some_is x y e = (cc)
+
+no_token_fault : (s : Steps) (bytes : List ℕ) (ts : List Token) (f : Fault) → AreTokens bytes ts → IsTokenFault bytes f → ⊥
+no_token_fault s bytes ts f a (us, b) = none_is_some f ((s.cut bytes ts us None (Some f) a b).1)
+
+same_trees : (s : Steps) (bytes : List ℕ) (ts us : List Token) (gs hs : List Goal) → Outlines bytes ts gs → Outlines bytes us hs → gs ≡ hs
+same_trees s bytes ts us gs hs a b =
+    s.one (terminals_of bytes us) gs hs (subst (λ xs. AreGoals (terminals_of bytes xs) gs) (same_tokens s bytes ts us a.cut b.cut) a.goals) b.goals
+
+no_syntax : (s : Steps) (bytes : List ℕ) (ts us : List Token) (gs : List Goal) (at : ℕ) → Outlines bytes ts gs → AreTokens bytes us → IsSyntaxFault (terminals_of bytes us) at → ⊥
+no_syntax s bytes ts us gs at o c f =
+    s.not_both (terminals_of bytes us) at (subst (λ xs. IsFile (terminals_of bytes xs)) (same_tokens s bytes ts us o.cut c) (s.whole (terminals_of bytes ts) gs o.goals)) f
+
+least_none : (m : Misfit) (ms : List Misfit) → ms ≡ [] → least ms ≡ Some m → ⊥
+least_none m ms e l = none_is_some m (sym (ap least e) ∙ l)
+
+limit_of_none : (p : What → ℕ → Type 0) (m : Met) → IsLeast p None → IsLeast p (Some m) → ⊥
+limit_of_none p m n f = n m.what m.at f.0
+
+abbrev met : (bytes : List ℕ) (ts : List Token) (gs : List Goal) → What → ℕ → Type 0
+met bytes ts gs = IsMetIn ts (terminals_of bytes ts) gs
+
+abbrev counted : (bytes : List ℕ) (ts : List Token) (end : ℕ) → What → ℕ → Type 0
+counted bytes ts end = IsCountedLimit ts (terminals_of bytes ts) end
+
+-- what is said of one outline is said of the other
+of_other : (s : Steps) (bytes : List ℕ) (ts us : List Token) (gs hs : List Goal) (p : List Token → List Goal → Type 0) → Outlines bytes ts gs → Outlines bytes us hs → p ts gs → p us hs
+of_other s bytes ts us gs hs p a b h = subst (λ xs. p xs hs) (same_tokens s bytes ts us a.cut b.cut) (subst (λ ys. p ts ys) (same_trees s bytes ts us gs hs a b) h)
+
+pub not_both : (s : Steps) (bytes : List ℕ) (f : Fault) → laws.NotBoth bytes f
 not_both s bytes f a (of_tokens t) = no_token_fault s bytes a.tokens f a.outlines.cut t
-not_both s bytes f a (of_limits {ts} {xs} {m} o l) = go a.tokens a.trees (one_outline s bytes a.tokens ts a.trees xs a.outlines o) a.within
-  where
-    go : (us : List Token) (ys : List Goal) → Same bytes us ts ys xs → IsWithinLimits bytes us ys → ⊥
-    go us ys (same refl refl) w = limit_of_none (met bytes ts xs) m w l
-not_both s bytes f a (of_counts {ts} {end} c e l) = no_syntax s bytes a.tokens ts a.trees end a.outlines c e
-not_both s bytes f a (of_syntax {ts} {end} c e l) = no_syntax s bytes a.tokens ts a.trees end a.outlines c e
-not_both s bytes f a (of_types {ts} {xs} {m} o w l) = go a.tokens a.trees (one_outline s bytes a.tokens ts a.trees xs a.outlines o) a.fit
-  where
-    go : (us : List Token) (ys : List Goal) → Same bytes us ts ys xs → file_misfits (source bytes us) ys ≡ [] → ⊥
-    go us ys (same refl refl) fit = least_none m (file_misfits (source bytes ts) xs) fit l
+not_both s bytes f a (of_limits {tokens} {gs} {m} o l) =
+    limit_of_none (met bytes tokens gs) m (of_other s bytes a.tokens tokens a.trees gs (λ us ys. IsWithinLimits bytes us ys) a.outlines o a.within) l
+not_both s bytes f a (of_counts {tokens} {end} c e l) = no_syntax s bytes a.tokens tokens a.trees end a.outlines c e
+not_both s bytes f a (of_syntax {tokens} {end} c e l) = no_syntax s bytes a.tokens tokens a.trees end a.outlines c e
+not_both s bytes f a (of_types {tokens} {gs} {m} o w l) =
+    least_none m (file_misfits (source bytes tokens) gs) (of_other s bytes a.tokens tokens a.trees gs (λ us ys. file_misfits (source bytes us) ys ≡ []) a.outlines o a.fit) l
 
 abbrev short_fault : List ℕ → List Token → ℕ → Option Met → Fault
 short_fault bytes ts end None = record { kind = kind.Syntax; place = place_of bytes (slice_get ts end) }
@@ -59,10 +96,10 @@ data Kind (bytes : List ℕ) (f : Fault) : Type 0 where
 
 kind_of : (bytes : List ℕ) (f : Fault) → IsFaultOf bytes f → Kind bytes f
 kind_of bytes f (of_tokens t) = in_tokens t
-kind_of bytes f (of_limits {ts} {gs} {m} o l) = in_whole ts gs o (Some m) l refl
-kind_of bytes f (of_counts {ts} {end} {m} c e l) = in_short ts end c e (Some m) l refl
-kind_of bytes f (of_syntax {ts} {end} c e l) = in_short ts end c e None l refl
-kind_of bytes f (of_types {ts} {gs} {m} o w l) = in_whole ts gs o None w (m, l, refl)
+kind_of bytes f (of_limits {tokens} {gs} {m} o l) = in_whole tokens gs o (Some m) l refl
+kind_of bytes f (of_counts {tokens} {end} {m} c e l) = in_short tokens end c e (Some m) l refl
+kind_of bytes f (of_syntax {tokens} {end} c e l) = in_short tokens end c e None l refl
+kind_of bytes f (of_types {tokens} {gs} {m} o w l) = in_whole tokens gs o None w (m, l, refl)
 
 one_limit : (p : What → ℕ → Type 0) (o q : Option Met) → IsLeast p o → IsLeast p q → o ≡ q
 one_limit p None None f g = refl
@@ -72,34 +109,25 @@ one_limit p (Some m) (Some n) f g = ap Some (one_least p m n f g)
 
 both_short : (s : Steps) (bytes : List ℕ) (f g : Fault) (ts us : List Token) (end end' : ℕ) (o q : Option Met) → AreTokens bytes ts → AreTokens bytes us → IsSyntaxFault (terminals_of bytes ts) end
     → IsSyntaxFault (terminals_of bytes us) end' → IsLeast (counted bytes ts end) o → IsLeast (counted bytes us end') q → f ≡ short_fault bytes ts end o → g ≡ short_fault bytes us end' q → f ≡ g
-both_short s bytes f g ts us end end' o q c d e e' l l' h h' = tokens ts us (same_tokens s bytes ts us c d) e e' l l' h h'
-  where
-    limits : (ts : List Token) (end : ℕ) → IsLeast (counted bytes ts end) o → IsLeast (counted bytes ts end) q → f ≡ short_fault bytes ts end o → g ≡ short_fault bytes ts end q → f ≡ g
-    limits ts end l l' h h' = h ∙ (ap (short_fault bytes ts end) (one_limit (counted bytes ts end) o q l l') ∙ sym h')
-
-    ends : (ts : List Token) (end end' : ℕ) → end ≡ end' → IsLeast (counted bytes ts end) o → IsLeast (counted bytes ts end') q → f ≡ short_fault bytes ts end o → g ≡ short_fault bytes ts end' q → f ≡ g
-    ends ts end end refl l l' h h' = limits ts end l l' h h'
-
-    tokens : (ts us : List Token) → ts ≡ us → IsSyntaxFault (terminals_of bytes ts) end → IsSyntaxFault (terminals_of bytes us) end' → IsLeast (counted bytes ts end) o → IsLeast (counted bytes us end') q
-        → f ≡ short_fault bytes ts end o → g ≡ short_fault bytes us end' q → f ≡ g
-    tokens ts ts refl e e' l l' h h' = ends ts end end' (s.one_fault (terminals_of bytes ts) end end' e e') l l' h h'
+both_short s bytes f g ts us end end' o q c d e e' l l' h h' =
+    let tokens : ts ≡ us = same_tokens s bytes ts us c d in
+    let ends : end ≡ end' = s.one_fault (terminals_of bytes us) end end' (subst (λ xs. IsSyntaxFault (terminals_of bytes xs) end) tokens e) e' in
+    let least : IsLeast (counted bytes us end') o = subst (λ n. IsLeast (counted bytes us n) o) ends (subst (λ xs. IsLeast (counted bytes xs end) o) tokens l) in
+    h ∙ ap (λ xs. short_fault bytes xs end o) tokens ∙ ap (λ n. short_fault bytes us n o) ends ∙ ap (short_fault bytes us end') (one_limit (counted bytes us end') o q least l') ∙ sym h'
 
 one_whole_fault : (bytes : List ℕ) (f g : Fault) (ts : List Token) (gs : List Goal) (o : Option Met) → WholeFault bytes ts gs o f → WholeFault bytes ts gs o g → f ≡ g
 one_whole_fault bytes f g ts gs (Some m) h k = h ∙ sym k
-one_whole_fault bytes f g ts gs None (m, l, h) (n, k, h') = h ∙ (ap (misfit_at bytes ts) (some_is (sym l ∙ k)) ∙ sym h')
+one_whole_fault bytes f g ts gs None (m, l, h) (n, k, h') = h ∙ ap (misfit_at bytes ts) (some_is m n (sym l ∙ k)) ∙ sym h'
 
 both_whole : (s : Steps) (bytes : List ℕ) (f g : Fault) (ts us : List Token) (gs hs : List Goal) (o q : Option Met) → Outlines bytes ts gs → Outlines bytes us hs → IsLeast (met bytes ts gs) o → IsLeast (met bytes us hs) q
     → WholeFault bytes ts gs o f → WholeFault bytes us hs q g → f ≡ g
-both_whole s bytes f g ts us gs hs o q a b l l' h h' = go ts us gs hs (one_outline s bytes ts us gs hs a b) l l' h h'
-  where
-    limits : (ts : List Token) (gs : List Goal) (o q : Option Met) → o ≡ q → WholeFault bytes ts gs o f → WholeFault bytes ts gs q g → f ≡ g
-    limits ts gs o o refl h h' = one_whole_fault bytes f g ts gs o h h'
-
-    go : (ts us : List Token) (gs hs : List Goal) → Same bytes ts us gs hs → IsLeast (met bytes ts gs) o → IsLeast (met bytes us hs) q → WholeFault bytes ts gs o f → WholeFault bytes us hs q g → f ≡ g
-    go ts ts gs gs (same refl refl) l l' h h' = limits ts gs o q (one_limit (met bytes ts gs) o q l l') h h'
+both_whole s bytes f g ts us gs hs o q a b l l' h h' =
+    let least : IsLeast (met bytes us hs) o = of_other s bytes ts us gs hs (λ xs ys. IsLeast (met bytes xs ys) o) a b l in
+    let fault : WholeFault bytes us hs o f = of_other s bytes ts us gs hs (λ xs ys. WholeFault bytes xs ys o f) a b h in
+    one_whole_fault bytes f g us hs q (subst (λ r. WholeFault bytes us hs r f) (one_limit (met bytes us hs) o q least l') fault) h'
 
 one_kind : (s : Steps) (bytes : List ℕ) (f g : Fault) → Kind bytes f → Kind bytes g → f ≡ g
-one_kind s bytes f g (in_tokens (ts, a)) (in_tokens (us, b)) = some_is ((s.cut bytes ts us (Some f) (Some g) a b).1)
+one_kind s bytes f g (in_tokens (ts, a)) (in_tokens (us, b)) = some_is f g ((s.cut bytes ts us (Some f) (Some g) a b).1)
 one_kind s bytes f g (in_tokens t) (in_short us end c e o l h) = absurd (no_token_fault s bytes us f c t)
 one_kind s bytes f g (in_tokens t) (in_whole us gs o q l h) = absurd (no_token_fault s bytes us f o.cut t)
 one_kind s bytes f g (in_short us end c e o l h) (in_tokens t) = absurd (no_token_fault s bytes us g c t)

@@ -4,13 +4,13 @@
 ghost use Rattle.std.specs.Prelude.{◌≡◌, ◌≤◌, ◌⊎◌, All, List, length, slice_get, IfOk, IfErr};
 ghost use Rattle.bv_lex.specs.Cut.{AreTokens, IsMemory, IsSpanWithin};
 ghost use Rattle.bv_grammar.specs.Derivation.{IsSyntaxFault};
-ghost use Rattle.bv_grammar.specs.Taking.{AreTaken};
+ghost use Rattle.bv_grammar.specs.Taking.{AreTaken, EndsAt};
 ghost use Rattle.bv_trees.specs.Trees.{Goal};
 ghost use Rattle.bv_trees.specs.Codes.{goal_pieces};
 ghost use Rattle.bv_parse.specs.Answers.{IsAnswer};
 ghost use Rattle.bv_parse.specs.Reads.{IsFaultOf, IsSound, IsWithinLimits, Outlines, place_of, terminals_of};
 
-use bv_grammar::{End, Reading, Taken, read};
+use bv_grammar::{End, Reading, Taken, Terminal, read};
 use bv_lex::{Fault, FaultKind, Token, end_place, lex};
 use bv_limits::{Met, first_counted_limit, first_limit};
 use bv_terminals::terminals;
@@ -110,12 +110,45 @@ fn found(alloc: Global, bytes: &[u8]) -> Result<(), Fault>
     requires { length bytes.now ≤ 4194304 }
     ensures { IsAnswer bytes.now result }
 {
-    whole_files_have_one_reading();
-    let tokens = lex(alloc, bytes)?;
-    let terminals = terminals(alloc, bytes, &tokens)?;
+    match lex(alloc, bytes) {
+        Ok(tokens) => of_tokens(alloc, bytes, &tokens),
+        Err(fault) => Err(fault),
+    }
+}
+
+/// Of a file with these tokens.
+fn of_tokens(alloc: Global, bytes: &[u8], tokens: &[Token]) -> Result<(), Fault>
+    requires size { length bytes.now ≤ 4194304 }
+    requires spans { All (IsSpanWithin (length bytes.now)) tokens.now }
+    requires cut { AreTokens bytes.now tokens.now }
+    ensures { IsAnswer bytes.now result }
+{
+    let terminals = terminals(alloc, bytes, tokens)?;
     let Reading { taken, end } = read(alloc, &terminals)?;
+    of_reading(alloc, bytes, tokens, &terminals, &taken, end)
+}
+
+/// Of a file whose tokens are these terminals, of which these are reached.
+fn of_reading(
+    alloc: Global,
+    bytes: &[u8],
+    tokens: &[Token],
+    terminals: &[Terminal],
+    taken: &[Taken],
+    end: End,
+) -> Result<(), Fault>
+    requires size { length bytes.now ≤ 4194304 }
+    requires spans { All (IsSpanWithin (length bytes.now)) tokens.now }
+    requires cut { AreTokens bytes.now tokens.now }
+    requires terminals { terminals.now ≡ terminals_of bytes.now tokens.now }
+    requires taken { AreTaken terminals.now taken.now }
+    requires end { EndsAt terminals.now (length taken.now) end }
+    ensures { IsAnswer bytes.now result }
+{
+    let _number = terminals.len();
+    whole_files_have_one_reading();
     match end {
-        End::Fault => Err(cut_short(bytes, &tokens, &taken)),
-        End::Whole => whole(alloc, bytes, &tokens, &taken),
+        End::Fault => Err(cut_short(bytes, tokens, taken)),
+        End::Whole => whole(alloc, bytes, tokens, taken),
     }
 }
