@@ -4,7 +4,7 @@ use bv_expr::Expr;
 
 /// What a tree is read as.
 #[derive(Drop)]
-pub(crate) enum Item {
+pub enum Item {
     /// A numeral that is read at no width.
     Number(u128),
     /// A term.

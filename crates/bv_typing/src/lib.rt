@@ -19,9 +19,11 @@ mod variables;
 mod verdicts;
 
 pub use goals::find_misfit;
+pub use item::Item;
 pub use kind::{Kind, Row};
 pub use method::{Method, Numbered};
 pub use misfit::Misfit;
+pub use note::Note;
 
 #[cfg(test)]
 mod tests;

@@ -1,0 +1,8 @@
+//! Terms of typed trees: at which width each part is read, and which sorts and depths terms have.
+#![tactic(auto)]
+
+mod building;
+mod laws;
+mod widths;
+
+pub use laws::{terms_are_held, terms_are_shallow, terms_are_sorted, trees_are_read};
