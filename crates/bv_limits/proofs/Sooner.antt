@@ -24,6 +24,7 @@ of_two p q r u m n true f g e = (u.0 m.what m.at f.0, all)
     either : (w : What) (k : ℕ) → p w k ⊎ q w k → IsBefore m.at m.what k w
     either w k (inl h) = f.1 w k h
     either w k (inr h) = onward m.at n.at k (rank m.what) (rank n.what) (rank w) (before m.at n.at (rank m.what) (rank n.what) e) (g.1 w k h)
+
     all : (w : What) (k : ℕ) → r w k → IsBefore m.at m.what k w
     all w k h = either w k (u.2 w k h)
 of_two p q r u m n false f g e = (u.1 n.what n.at g.0, all)
@@ -31,6 +32,7 @@ of_two p q r u m n false f g e = (u.1 n.what n.at g.0, all)
     either : (w : What) (k : ℕ) → p w k ⊎ q w k → IsBefore n.at n.what k w
     either w k (inl h) = onward n.at m.at k (rank n.what) (rank m.what) (rank w) (not_before m.at n.at (rank m.what) (rank n.what) e) (f.1 w k h)
     either w k (inr h) = g.1 w k h
+
     all : (w : What) (k : ℕ) → r w k → IsBefore n.at n.what k w
     all w k h = either w k (u.2 w k h)
 
@@ -40,6 +42,7 @@ sooner_least p q r u None None f g = none
     either : (w : What) (k : ℕ) → p w k ⊎ q w k → ⊥
     either w k (inl h) = f w k h
     either w k (inr h) = g w k h
+
     none : (w : What) (k : ℕ) → r w k → ⊥
     none w k h = either w k (u.2 w k h)
 sooner_least p q r u None (Some n) f g = (u.1 n.what n.at g.0, all)
@@ -47,6 +50,7 @@ sooner_least p q r u None (Some n) f g = (u.1 n.what n.at g.0, all)
     either : (w : What) (k : ℕ) → p w k ⊎ q w k → IsBefore n.at n.what k w
     either w k (inl h) = absurd (f w k h)
     either w k (inr h) = g.1 w k h
+
     all : (w : What) (k : ℕ) → r w k → IsBefore n.at n.what k w
     all w k h = either w k (u.2 w k h)
 sooner_least p q r u (Some m) None f g = (u.0 m.what m.at f.0, all)
@@ -54,6 +58,7 @@ sooner_least p q r u (Some m) None f g = (u.0 m.what m.at f.0, all)
     either : (w : What) (k : ℕ) → p w k ⊎ q w k → IsBefore m.at m.what k w
     either w k (inl h) = f.1 w k h
     either w k (inr h) = absurd (g w k h)
+
     all : (w : What) (k : ℕ) → r w k → IsBefore m.at m.what k w
     all w k h = either w k (u.2 w k h)
 sooner_least p q r u (Some m) (Some n) f g = of_two p q r u m n (is_before m n) f g refl
@@ -81,6 +86,7 @@ both_kinds tokens ts gs = (λ w k h. counted h, put, split)
   where
     put : (w : What) (k : ℕ) → IsDeep (terms_of gs) w k → IsMetIn tokens ts gs w k
     put w k (e, h) = subst (λ v. IsMetIn tokens ts gs v k) (sym e) (deep h)
+
     split : (w : What) (k : ℕ) → IsMetIn tokens ts gs w k → IsCountedLimit tokens ts (length ts) w k ⊎ IsDeep (terms_of gs) w k
     split w k (counted h) = inl h
     split w k (deep h) = inr (refl, h)

@@ -9,11 +9,10 @@ ghost use Rattle.bv_typing.specs.Stacks.{popped};
 ghost use Rattle.bv_typing.specs.Readings as readings;
 ghost use Rattle.bv_terms.specs.Building as spec;
 
-use bv_typing::Item;
-use bv_typing::{Method, Numbered};
 use crate::widths::is_shift;
 use bv_expr::{Binary, Expr, Node, Sort, Unary, binary_node, unary_node};
 use bv_grammar::Word;
+use bv_typing::{Item, Method, Numbered};
 use bv_value::Bv;
 use std::alloc::{AllocError, Global};
 use std::marker::Model;

@@ -5,9 +5,9 @@ ghost use Rattle.bv_typing.specs.Readings as readings;
 ghost use Rattle.bv_typing.specs.Stacks.{popped, top, below};
 ghost use Rattle.bv_terms.specs.Widths as spec;
 
-use bv_typing::Note;
 use bv_grammar::Word;
 use bv_trees::Piece;
+use bv_typing::Note;
 use std::alloc::{AllocError, Global};
 use std::marker::Model;
 

@@ -9,10 +9,10 @@ ghost use Rattle.goal_alone.specs.Alone.{alone as answer, solved};
 ghost use Rattle.goal_alone.specs.Told.{IfFalse, IfProved, IsAnswer};
 
 use crate::formula::{Formula, FormulaStop, formula_of};
-use goal_reply::Reply;
 use crate::search_end::reply_of;
 use crate::solve::solve;
 use bv_expr::Goal;
+use goal_reply::Reply;
 use std::alloc::{AllocError, Global};
 
 /// The reply to a goal that has clauses, or want of memory for the search.

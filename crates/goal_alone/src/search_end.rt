@@ -12,10 +12,10 @@ ghost use Rattle.goal_alone.specs.Told.{IfFalse, IfProved, IsAnswer};
 
 use crate::certificate::certificate;
 use crate::counterexample::counterexample;
-use goal_reply::Reply;
 use bv_expr::{Expr, Goal};
 use cdcl_solver::Search;
 use cone_walk::Cone;
+use goal_reply::Reply;
 use search_learn::Turn;
 use std::alloc::{AllocError, Global};
 
