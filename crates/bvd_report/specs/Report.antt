@@ -47,10 +47,11 @@ pub record Line : Type 0 where
   pub certificate : List ℕ
   pub told : Told
 
--- what became of a file: it isn't there, it is too long, it has a fault, or its goals have these lines
+-- what became of a file: it isn't there, it is too long, it is sound but its goals can't be read yet, it has a fault, or its goals have these lines
 pub data Found : Type 0 where
   Absent : Found
   TooLong : Found
+  NotYet : Found
   Faulty : Fault → Found
   Goals : List Line → Found
 
@@ -176,6 +177,7 @@ path_line command path = codes "file " ++ path ++ codes "\n"
 abbrev pub file_lines : Command → Bool → ℕ → List ℕ → Found → List ℕ
 file_lines command quiet k path Found.Absent = codes "file " ++ path ++ codes ": absent\n"
 file_lines command quiet k path Found.TooLong = codes "file " ++ path ++ codes ": too long\n"
+file_lines command quiet k path Found.NotYet = codes "file " ++ path ++ codes ": not yet\n"
 file_lines command quiet k path (Found.Faulty fault) = fault_line path fault
 file_lines command quiet k path (Found.Goals lines) = if quiet then [] else path_line command path ++ goal_lines command k lines
 
@@ -257,6 +259,7 @@ goals_status (line ∷ rest) = max (told_status line.told) (goals_status rest)
 abbrev pub found_status : Found → ℕ
 found_status Found.Absent = 4
 found_status Found.TooLong = 4
+found_status Found.NotYet = 4
 found_status (Found.Faulty fault) = 4
 found_status (Found.Goals lines) = goals_status lines
 
