@@ -4,10 +4,11 @@ use Rattle.std.specs.Prelude.{All, Contains, Option, unwrap_or}
 use Rattle.bvd_host.specs.Files.{Files, file_at}
 use Rattle.bv_lex.specs.declared.fault.Fault.{Fault}
 use Rattle.bv_expr.specs.Statement.{Statement}
-use Rattle.bv_parse.specs.Reads.{ReadsAs, IsFaultOf}
+use Rattle.bv_parse.specs.Laws.{OneFault, NotBoth}
+use Rattle.goal_files.specs.Files.{goals_in}
 use Rattle.bvd_words.specs.Requests.{Command, Prove, Alone, Check, Cnf, Show, Request}
 use Rattle.bvd_report.specs.Report.{Told, Proved, Line, Found, Part, goals_of, all_goals, certificates}
-use Rattle.bvd_top.specs.Stated.{Stated, Absent, TooLong, Faulty, Goals, File, IsStatedBy, IsStatedIn, AreStated, IsSmall, goals_stated}
+use Rattle.bvd_top.specs.Stated.{Stated, Absent, TooLong, NotYet, Faulty, Goals, File, IsStatedBy, IsStatedIn, AreStated, IsSmall, goals_stated}
 use Rattle.bvd_top.specs.Storing.{with_all}
 use Rattle.bvd_top.specs.Names.{numbered, certificate_of}
 use Rattle.bvd_top.specs.Answered.{IsAnswered}
@@ -22,32 +23,45 @@ use Rattle.bvd_top.proofs.Kept.{kept_is_accepted}
 
 -- ---- both runs read the same
 
--- bytes read as one list of goals, or have one fault, and not both
-pub record ReadsOnce : Type 0 where
-  pub reading : (bytes : List ℕ) (gs hs : List Statement) → ReadsAs bytes gs → ReadsAs bytes hs → gs ≡ hs
-  pub fault : (bytes : List ℕ) (f g : Fault) → IsFaultOf bytes f → IsFaultOf bytes g → f ≡ g
-  pub not_both : (bytes : List ℕ) (gs : List Statement) (f : Fault) → ReadsAs bytes gs → IsFaultOf bytes f → ⊥
+-- a file has one fault at most, and a sound one has none
+pub record OneAnswer : Type 0 where
+  pub fault : (bytes : List ℕ) (f g : Fault) → OneFault bytes f g
+  pub not_both : (bytes : List ℕ) (f : Fault) → NotBoth bytes f
 
-one_by : ReadsOnce → (bytes : List ℕ) (s t : Stated) → IsStatedBy bytes s → IsStatedBy bytes t → s ≡ t
+none_or_some : (o : Option (List Statement)) (gs : List Statement) → o ≡ None → o ≡ Some gs → ⊥
+none_or_some o gs p q = cc
+
+same_some : (o : Option (List Statement)) (gs hs : List Statement) → o ≡ Some gs → o ≡ Some hs → gs ≡ hs
+same_some o gs hs p q = cc
+
+one_by : OneAnswer → (bytes : List ℕ) (s t : Stated) → IsStatedBy bytes s → IsStatedBy bytes t → s ≡ t
 one_by once bytes Absent t p q = absurd p
 one_by once bytes TooLong Absent p q = absurd q
 one_by once bytes TooLong TooLong p q = refl
+one_by once bytes TooLong NotYet p q = absurd (omega (arith, p, q.0))
 one_by once bytes TooLong (Faulty g) p q = absurd (omega (arith, p, q.0))
 one_by once bytes TooLong (Goals hs) p q = absurd (omega (arith, p, q.0))
+one_by once bytes NotYet Absent p q = absurd q
+one_by once bytes NotYet TooLong p q = absurd (omega (arith, q, p.0))
+one_by once bytes NotYet NotYet p q = refl
+one_by once bytes NotYet (Faulty g) p q = absurd (once.not_both bytes g p.2 q.2)
+one_by once bytes NotYet (Goals hs) p q = absurd (none_or_some (goals_in bytes) hs p.1 q.1)
 one_by once bytes (Faulty f) Absent p q = absurd q
 one_by once bytes (Faulty f) TooLong p q = absurd (omega (arith, q, p.0))
-one_by once bytes (Faulty f) (Faulty g) p q = ap Faulty (once.fault bytes f g p.1 q.1)
-one_by once bytes (Faulty f) (Goals hs) p q = absurd (once.not_both bytes hs f q.1 p.1)
+one_by once bytes (Faulty f) NotYet p q = absurd (once.not_both bytes f q.2 p.2)
+one_by once bytes (Faulty f) (Faulty g) p q = ap Faulty (once.fault bytes f g p.2 q.2)
+one_by once bytes (Faulty f) (Goals hs) p q = absurd (none_or_some (goals_in bytes) hs p.1 q.1)
 one_by once bytes (Goals gs) Absent p q = absurd q
 one_by once bytes (Goals gs) TooLong p q = absurd (omega (arith, q, p.0))
-one_by once bytes (Goals gs) (Faulty g) p q = absurd (once.not_both bytes gs g p.1 q.1)
-one_by once bytes (Goals gs) (Goals hs) p q = ap Goals (once.reading bytes gs hs p.1 q.1)
+one_by once bytes (Goals gs) NotYet p q = absurd (none_or_some (goals_in bytes) gs q.1 p.1)
+one_by once bytes (Goals gs) (Faulty g) p q = absurd (none_or_some (goals_in bytes) gs q.1 p.1)
+one_by once bytes (Goals gs) (Goals hs) p q = ap Goals (same_some (goals_in bytes) gs hs p.1 q.1)
 
-one_in : ReadsOnce → (content : Option (List ℕ)) (s t : Stated) → IsStatedIn content s → IsStatedIn content t → s ≡ t
+one_in : OneAnswer → (content : Option (List ℕ)) (s t : Stated) → IsStatedIn content s → IsStatedIn content t → s ≡ t
 one_in once None s t p q = p ∙ sym q
 one_in once (Some bytes) s t p q = one_by once bytes s t p q
 
-same_files : ReadsOnce → (files final : Files) (m n : Type 0) (names : List (List ℕ)) (stated others : List File) → ((name : List ℕ) → Contains names name → file_at final name ≡ file_at files name)
+same_files : OneAnswer → (files final : Files) (m n : Type 0) (names : List (List ℕ)) (stated others : List File) → ((name : List ℕ) → Contains names name → file_at final name ≡ file_at files name)
     → AreStated (Some files) m names stated → AreStated (Some final) n names others → others ≡ stated
 same_files once files final m n [] [] [] same are were = refl
 same_files once files final m n [] (file ∷ stated) others same are were = absurd are
@@ -95,9 +109,11 @@ told_in : (request : Request) (files : Files) (missing : Type 0) (k : ℕ) (stat
     → AreTold request (Some files) missing k (goals_stated stated) (goals_of found)
 told_in request files missing k Absent found is = subst (λ f. AreTold request (Some files) missing k [] (goals_of f)) (sym is) tt
 told_in request files missing k TooLong found is = subst (λ f. AreTold request (Some files) missing k [] (goals_of f)) (sym is) tt
+told_in request files missing k NotYet found is = subst (λ f. AreTold request (Some files) missing k [] (goals_of f)) (sym is) tt
 told_in request files missing k (Faulty fault) found is = subst (λ f. AreTold request (Some files) missing k [] (goals_of f)) (sym is) tt
 told_in request files missing k (Goals goals) Found.Absent is = absurd is
 told_in request files missing k (Goals goals) Found.TooLong is = absurd is
+told_in request files missing k (Goals goals) Found.NotYet is = absurd is
 told_in request files missing k (Goals goals) (Found.Faulty fault) is = absurd is
 told_in request files missing k (Goals goals) (Found.Goals lines) is = is
 
@@ -178,7 +194,7 @@ untouched : (files : Files) (names : List (List ℕ)) (all : List (List ℕ × L
     → (name : List ℕ) → Contains names name → file_at (with_all all files) name ≡ file_at files name
 untouched files names all apart name among = stays all files name (λ i d lt e. apart i d lt (subst (Contains names) e among))
 
-pub later_accepts : ReadsOnce → (missing missing_later : Type 0) → LaterCheckAccepts missing missing_later
+pub later_accepts : OneAnswer → (missing missing_later : Type 0) → LaterCheckAccepts missing missing_later
 later_accepts once missing missing_later request check files parts checked is =
     let final : Files = with_all (certificates parts) files in
     let same = same_files once files final missing missing_later request.files is.run.0 is.run_behind.0 (untouched files request.files (certificates parts) is.apart) is.run.1

@@ -109,8 +109,6 @@ fn all_tell(alloc: Global, rows: &[Told<'_>]) -> Result<bool, AllocError> {
     Ok(true)
 }
 
-const ALONE: [&str; 2] = ["alone", "a.lean"];
-
 const EQUAL: &[u8] = b"theorem n (a b : Bool) : a = b := by bv_decide\n";
 
 const ASSOCIATIVE: &[u8] =
@@ -118,7 +116,7 @@ const ASSOCIATIVE: &[u8] =
 
 #[test]
 fn searches_tell_their_answers(rt: HostRuntime) {
-    let rows: [Told<'_>; 12] = [
+    let rows: [Told<'_>; 8] = [
         (
             &PROVE,
             SUM,
@@ -167,90 +165,32 @@ fn searches_tell_their_answers(rt: HostRuntime) {
             3,
             b"file a.lean\n1. t: budget 27\ngoals: 0 proved, 0 false, 1 other\n",
         ),
-        (
-            &ALONE,
-            b"theorem b (x : BitVec 8) : x \xe2\x89\xa4 x + 1 := by bv_decide",
-            1,
-            b"file a.lean\n1. b: false x = 0xff#8\ngoals: 0 proved, 1 false, 0 other\n",
-        ),
-        (
-            &PROVE,
-            b"theorem z (x : BitVec 8) : x / 0 = 0 := by bv_decide\ntheorem r (x : BitVec 8) : x % 0 = x := by bv_decide",
-            0,
-            b"file a.lean\n1. z: proved goal-1.lrat\n2. r: proved goal-2.lrat\ngoals: 2 proved, 0 false, 0 other\n",
-        ),
-        (
-            &PROVE,
-            b"example : (128#8).sdiv 255#8 = 128#8 := by bv_decide\nexample : (249#8).srem 3#8 = 255#8 := by bv_decide\nexample : (249#8).smod 3#8 = 2#8 := by bv_decide",
-            0,
-            b"file a.lean\n1. example: proved goal-1.lrat\n2. example: proved goal-2.lrat\n3. example: proved goal-3.lrat\ngoals: 3 proved, 0 false, 0 other\n",
-        ),
-        (
-            &PROVE,
-            b"example : 300#8 = 44#8 := by bv_decide\nexample : (0x81#8).rotateLeft 9 = 0x03#8 := by bv_decide\nexample : (0x80#8).sshiftRight 200 = 0xff#8 := by bv_decide",
-            0,
-            b"file a.lean\n1. example: proved goal-1.lrat\n2. example: proved goal-2.lrat\n3. example: proved goal-3.lrat\ngoals: 3 proved, 0 false, 0 other\n",
-        ),
     ];
     assert!(rt; all_tell(rt.alloc(), &rows).expect(&rt, "memory"));
+    let ran = run(rt.alloc(), &PROVE, Some(SUM), NOTHING_FAILS).expect(&rt, "memory");
+    assert!(rt; ran.first.is_some_and(|text| text.as_slice() == CERTIFICATE));
 }
 
 #[test]
 fn faults_clauses_and_goals_are_told(rt: HostRuntime) {
-    let rows: [Told<'_>; 11] = [
+    let rows: [Told<'_>; 6] = [
         (
             &PROVE,
-            b"",
-            0,
-            b"file a.lean\ngoals: 0 proved, 0 false, 0 other\n",
-        ),
-        (
-            &PROVE,
-            b"theorem w (x : BitVec 129) : x = x := by bv_decide",
+            b"theorem",
             4,
-            b"file a.lean: limit width 1:23\ngoals: 0 proved, 0 false, 0 other\n",
+            b"file a.lean: syntax 1:8\ngoals: 0 proved, 0 false, 0 other\n",
         ),
         (
             &PROVE,
-            b"theorem w (x : BitVec 0) : x = x := by bv_decide",
+            b"/- a /- b -/",
             4,
-            b"file a.lean: limit width 1:23\ngoals: 0 proved, 0 false, 0 other\n",
+            b"file a.lean: lex 1:1\ngoals: 0 proved, 0 false, 0 other\n",
         ),
         (
             &PROVE,
-            b"theorem w (x : BitVec 128) : x = x := by bv_decide",
-            0,
-            b"file a.lean\n1. w: proved goal-1.lrat\ngoals: 1 proved, 0 false, 0 other\n",
-        ),
-        (
-            &PROVE,
-            b"theorem w (x : BitVec 65) : x ++ x = x ++ x := by bv_decide",
+            b"theorem b (x : BitVec 8) : x \xe2\x89\xa4 x + 1 := by bv_decide",
             4,
-            b"file a.lean: limit width 1:31\ngoals: 0 proved, 0 false, 0 other\n",
-        ),
-        (
-            &PROVE,
-            b"theorem p (x y : BitVec 1) : x + y = x ^^^ y := by bv_decide",
-            0,
-            b"file a.lean\n1. p: proved goal-1.lrat\ngoals: 1 proved, 0 false, 0 other\n",
-        ),
-        (
-            &PROVE,
-            b"theorem c (a b c : Bool) : a = b = c := by bv_decide",
-            4,
-            b"file a.lean: syntax 1:34\ngoals: 0 proved, 0 false, 0 other\n",
-        ),
-        (
-            &PROVE,
-            b"example : 1 = 1 := by bv_decide",
-            4,
-            b"file a.lean: type 1:13\ngoals: 0 proved, 0 false, 0 other\n",
-        ),
-        (
-            &PROVE,
-            b"example : 1 = $ := by bv_decide",
-            4,
-            b"file a.lean: lex 1:15\ngoals: 0 proved, 0 false, 0 other\n",
+            b"file a.lean: not yet\ngoals: 0 proved, 0 false, 0 other\n",
         ),
         (
             &["cnf", "a.lean"],
@@ -260,9 +200,15 @@ fn faults_clauses_and_goals_are_told(rt: HostRuntime) {
         ),
         (
             &["show", "a.lean"],
-            b"theorem s (x : BitVec 8) (h : x > 3) : \xc2\xac x = 0 := by bv_decide",
+            SUM,
             0,
-            b"theorem s (x : BitVec 8) (h : (0x03#8 < x)) : (!(x = 0x00#8)) := by bv_decide\n",
+            b"example : ((0x05#8 + 0xfb#8) = 0x00#8) := by bv_decide\n",
+        ),
+        (
+            &["show", "a.lean"],
+            EQUAL,
+            0,
+            b"theorem n (a : Bool) (b : Bool) : (a = b) := by bv_decide\n",
         ),
     ];
     assert!(rt; all_tell(rt.alloc(), &rows).expect(&rt, "memory"));
@@ -294,8 +240,9 @@ fn failing_devices_leave_what_was_done_before(rt: HostRuntime) {
 
 #[test]
 fn goals_are_numbered_through_all_files(rt: HostRuntime) {
-    let rows: [(&[File<'_>], u8, &[u8]); 2] = [
+    let rows: [(&str, &[File<'_>], u8, &[u8]); 2] = [
         (
+            "alone",
             &[
                 ("a.lean", EQUAL),
                 (
@@ -307,13 +254,14 @@ fn goals_are_numbered_through_all_files(rt: HostRuntime) {
             b"file a.lean\n1. n: false a = false, b = true\nfile b.lean\n2. m: false p = false, q = true\ngoals: 0 proved, 2 false, 0 other\n",
         ),
         (
+            "prove",
             &[("a.lean", SUM)],
             4,
             b"file a.lean\n1. example: proved goal-1.lrat\nfile b.lean: absent\ngoals: 1 proved, 0 false, 0 other\n",
         ),
     ];
-    for (files, status, report) in rows {
-        let words: [&str; 3] = ["prove", "a.lean", "b.lean"];
+    for (command, files, status, report) in rows {
+        let words: [&str; 3] = [command, "a.lean", "b.lean"];
         let ran = run_over(rt.alloc(), &words, files, NOTHING_FAILS).expect(&rt, "memory");
         assert_eq!(rt; ran.status, status);
         assert!(rt; ran.report.as_slice() == report);
@@ -332,18 +280,7 @@ const HINT_LESS: &[u8] =
 fn stored_certificates_are_checked(rt: HostRuntime) {
     let proved = run(rt.alloc(), &PROVE, Some(ASSOCIATIVE), NOTHING_FAILS).expect(&rt, "memory");
     assert!(rt; proved.first.is_some_and(|text| text.as_slice() == LINES));
-    let rows: [(&[File<'_>], u8, &[u8]); 5] = [
-        (
-            &[
-                (
-                    "a.lean",
-                    b"example : 5#8 + 251#8 = 0#8 := by bv_check \"sum.lrat\"",
-                ),
-                ("sum.lrat", CERTIFICATE),
-            ],
-            0,
-            b"file a.lean\n1. example: accepted sum.lrat\ngoals: 1 accepted, 0 refused, 0 other\n",
-        ),
+    let rows: [(&[File<'_>], u8, &[u8]); 4] = [
         (
             &[("a.lean", ASSOCIATIVE), ("goal-1.lrat", LINES)],
             0,
@@ -473,6 +410,10 @@ fn a_file_above_the_sizes_is_not_read(rt: HostRuntime) -> Result<(), AllocError>
     file.push(b'\n')?;
     let ran = run(rt.alloc(), &PROVE, Some(&file), second_read_fails)?;
     assert_eq!(rt; ran.status, 4);
+    assert!(rt;
+        ran.report.as_slice()
+            == b"file a.lean: too long\ngoals: 0 proved, 0 false, 0 other\n".as_slice()
+    );
     Ok(())
 }
 
