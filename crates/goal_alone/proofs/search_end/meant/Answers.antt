@@ -1,4 +1,5 @@
-use Rattle.std.proofs.Common.{◌∙◌, List, length, sym, ap, subst, inl, inr}
+use Rattle.std.proofs.Common.{◌∙◌, List, [], ◌∷◌, IsSome, length, map, sym, ap, subst, arith, inl, inr}
+use Rattle.std.proofs.lemmas.List.Elements.{All-nil, All-cons, All-head, All-tail}
 use Rattle.sat_form.specs.Literals.{Literal}
 use Rattle.sat_form.specs.Truth.{satisfies, value_of}
 use Rattle.lrat_lines.specs.Replay.{TextComesTo}
@@ -13,13 +14,37 @@ use Rattle.bv_expr.specs.Term.{Term}
 use Rattle.bv_expr.specs.Goal.{Binders, IsGoal}
 use Rattle.bv_expr.specs.Sorts.{IsExpr}
 use Rattle.std.specs.Prelude.{All}
+use Rattle.bv_normal.specs.Normal.{normal}
+use Rattle.bv_normal.proofs.Normalising.{normal_keeps, fits_of}
+use Rattle.bv_normal.proofs.Goaling.{goal_again, falsified_alike}
+use Rattle.blast_goal.specs.Circuit.{goal_row}
+use Rattle.blast_goal.specs.Values.{values_of}
 use Rattle.blast_goal.proofs.Falsifying.{edge-value, edge-read}
+use Rattle.blast_goal.proofs.Reading.{are_values}
 use Rattle.goal_alone.proofs.Satisfied.{IsEdgeOf, falsified, satisfiable_where_falsifiable}
 use Rattle.goal_alone.proofs.Telling.{valid_without_values}
 use Rattle.goal_alone.proofs.search_end.meant.Goals as goal
 
+normal_expr : (t : Term) → IsExpr t → IsExpr (normal t)
+normal_expr t ex = let k = normal_keeps t (fits_of ex) in record { sorted = subst IsSome (sym k.sort_is) ex.sorted; leaves = k.leaves; shallow = omega (arith, k.depth_within, ex.shallow) }
+
+normal_exprs : (ts : List Term) → All IsExpr ts → All IsExpr (map normal ts)
+normal_exprs [] h = All-nil IsExpr
+normal_exprs (t ∷ ts) h = All-cons IsExpr (normal t) (map normal ts) (normal_expr t (All-head IsExpr t ts h)) (normal_exprs ts (All-tail IsExpr t ts h))
+
 law : (binders : Binders) (hyps : List Term) (concl : Term) → IsGoal binders hyps concl → All IsExpr hyps → IsExpr concl → IsEdgeOf binders hyps concl
-law binders hyps concl goal exprs expr = record { of_values = edge-value binders hyps concl goal exprs expr; of_bits = edge-read binders hyps concl goal exprs expr }
+unfolding goal_row
+law binders hyps concl goal exprs expr =
+    let again = goal_again binders hyps concl goal exprs expr in
+    let alike = falsified_alike binders hyps concl goal exprs expr in
+    record {
+      of_values = λ values are.
+        let p = edge-value binders (map normal hyps) (normal concl) again (normal_exprs hyps exprs) (normal_expr concl expr) values are in
+        let q = alike values are in (λ e. q.0 (p.0 e), λ f. p.1 (q.1 f));
+      of_bits = λ bits.
+        let p = edge-read binders (map normal hyps) (normal concl) again (normal_exprs hyps exprs) (normal_expr concl expr) bits in
+        let q = alike (values_of binders bits) (are_values binders bits goal.sorts) in (λ e. q.0 (p.0 e), λ f. p.1 (q.1 f));
+    }
 
 pub counterexample-requires : goal.counterexample-requires
 counterexample-requires c =
