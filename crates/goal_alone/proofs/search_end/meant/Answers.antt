@@ -39,11 +39,11 @@ law binders hyps concl goal exprs expr =
     let alike = falsified_alike binders hyps concl goal exprs expr in
     record {
       of_values = λ values are.
-        let p = edge-value binders (map normal hyps) (normal concl) again (normal_exprs hyps exprs) (normal_expr concl expr) values are in
-        let q = alike values are in (λ e. q.0 (p.0 e), λ f. p.1 (q.1 f));
+          let p = edge-value binders (map normal hyps) (normal concl) again (normal_exprs hyps exprs) (normal_expr concl expr) values are in
+          let q = alike values are in (λ e. q.0 (p.0 e), λ f. p.1 (q.1 f));
       of_bits = λ bits.
-        let p = edge-read binders (map normal hyps) (normal concl) again (normal_exprs hyps exprs) (normal_expr concl expr) bits in
-        let q = alike (values_of binders bits) (are_values binders bits goal.sorts) in (λ e. q.0 (p.0 e), λ f. p.1 (q.1 f));
+          let p = edge-read binders (map normal hyps) (normal concl) again (normal_exprs hyps exprs) (normal_expr concl expr) bits in
+          let q = alike (values_of binders bits) (are_values binders bits goal.sorts) in (λ e. q.0 (p.0 e), λ f. p.1 (q.1 f));
     }
 
 pub counterexample-requires : goal.counterexample-requires
