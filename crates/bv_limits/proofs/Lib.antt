@@ -6,3 +6,4 @@ pub mod Named
 pub mod Measured
 pub mod Chosen
 pub mod Sooner
+pub mod CutShort

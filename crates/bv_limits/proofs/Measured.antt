@@ -10,23 +10,25 @@ use Rattle.bv_trees.specs.declared.pieces.Piece.TheVariants as piece
 use Rattle.bv_trees.specs.Trees as v
 use Rattle.bv_trees.specs.Trees.{Tree, Trees, Binder, Goal}
 use Rattle.bv_trees.specs.Codes.{pieces, arguments, binder_pieces, goal_pieces}
+use Rattle.bv_trees.specs.Complete as complete
+use Rattle.bv_trees.specs.Complete.{Within, WithinAny, operator_of, Holds, IsLoose}
 use Rattle.bv_limits.specs.declared.depths.Part.{Part}
 use Rattle.bv_limits.specs.declared.depths.Part.TheVariants as part
 use Rattle.bv_limits.specs.Depths.{added, depth, depths}
 use Rattle.bv_limits.specs.Deep as d
-use Rattle.bv_limits.specs.Deep.{Within, WithinAny, operator_of, HasDeep, AnyDeep, IsFirstDeep, Holds, IsLoose, hypotheses, terms_of}
+use Rattle.bv_limits.specs.Deep.{HasDeep, AnyDeep, IsFirstDeep, hypotheses, terms_of}
 use Rattle.bv_limits.specs.Measuring.{capped, put, gathered, behind, step, top, place_of, least_of, note, Measure, start, tell, measure}
 
-abbrev mk : List Part → Option ℕ → Measure
+abbrev pub mk : List Part → Option ℕ → Measure
 mk s l = record { parts = s; least = l }
 
-measure-append : (ps qs : List Piece) (m : Measure) → measure (ps ++ qs) m ≡ measure qs (measure ps m)
+pub measure-append : (ps qs : List Piece) (m : Measure) → measure (ps ++ qs) m ≡ measure qs (measure ps m)
 measure-append [] qs m = refl
 measure-append (o ∷ ps) qs m = measure-append ps qs (tell o m)
 
 -- what is least behind a term
 abbrev mutual
-  noted : Tree → Option ℕ → Option ℕ
+  pub noted : Tree → Option ℕ → Option ℕ
   noted (v.name i) l = l
   noted (v.numeral i) l = l
   noted (v.literal i w) l = l
@@ -76,7 +78,7 @@ abbrev closed : ℕ → List Part → Option ℕ → ℕ → Measure
 closed i s l e = mk (part.Term e ∷ s) (note (Some i) e l)
 
 mutual
-  measured : (x : Tree) (s : List Part) (l : Option ℕ) → measure (pieces x) (mk s l) ≡ mk (put (depth x) s) (noted x l)
+  pub measured : (x : Tree) (s : List Part) (l : Option ℕ) → measure (pieces x) (mk s l) ≡ mk (put (depth x) s) (noted x l)
   measured (v.name i) s l = refl
   measured (v.numeral i) s l = refl
   measured (v.literal i w) s l = refl
@@ -112,7 +114,7 @@ mutual
   measured_all (v.and x xs) s l = measure-append (pieces x) (arguments xs) (mk s l) ∙ ap (measure (arguments xs)) (measured x s l) ∙ measured_all xs (put (depth x) s) (noted x l)
 
 -- o is the least of l and of the places with P
-record Least (P : ℕ → Type 0) (l o : Option ℕ) : Type 0 where
+pub record Least (P : ℕ → Type 0) (l o : Option ℕ) : Type 0 where
   pub from : (k : ℕ) → o ≡ Some k → P k ⊎ (l ≡ Some k)
   pub covers : (i : ℕ) → P i → (k : ℕ) × (o ≡ Some k) × (k ≤ i)
   pub keeps : (i : ℕ) → l ≡ Some i → (k : ℕ) × (o ≡ Some k) × (k ≤ i)
@@ -164,7 +166,7 @@ least_here : (i : ℕ) (l : Option ℕ) → least_of i l ≤ i
 least_here i None = omega arith
 least_here i (Some k) = omega arith
 
-least_there : (i k : ℕ) (l : Option ℕ) → l ≡ Some k → least_of i l ≤ k
+pub least_there : (i k : ℕ) (l : Option ℕ) → l ≡ Some k → least_of i l ≤ k
 least_there i k None e = cc
 least_there i k (Some n) e = let same : n ≡ k = cc in omega (arith, same)
 
@@ -184,25 +186,25 @@ deep_in : {x : Tree} {k : ℕ} (y : Tree) → Within y x → operator_of y ≡ S
 deep_in y w e h = record { deep = y; within = w; operator = e; deeper = h }
 
 deep_here : (x : Tree) (i k : ℕ) → operator_of x ≡ Some i → (k ≡ i) × (1000 < depth x) → HasDeep x k
-deep_here x i k e h = deep_in x d.itself (e ∙ ap Some (sym h.0)) h.1
+deep_here x i k e h = deep_in x complete.itself (e ∙ ap Some (sym h.0)) h.1
 
 same_place : {m n : ℕ} → Some m ≡ Some n → n ≡ m
 same_place e = cc
 
 within_prefix : {y x : Tree} {o : Word} {i : ℕ} (k : ℕ) → Within y (v.prefix o i x) → operator_of y ≡ Some k → 1000 < depth y → HasDeep x k ⊎ ((k ≡ i) × (1000 < depth (v.prefix o i x)))
-within_prefix k d.itself e h = inr (same_place e, h)
-within_prefix {y} k (d.operand w) e h = inl (deep_in y w e h)
+within_prefix k complete.itself e h = inr (same_place e, h)
+within_prefix {y} k (complete.operand w) e h = inl (deep_in y w e h)
 
 within_infix : {y x z : Tree} {o : Word} {i : ℕ} (k : ℕ) → Within y (v.infix_ o i x z) → operator_of y ≡ Some k → 1000 < depth y → (HasDeep x k ⊎ HasDeep z k) ⊎ ((k ≡ i) × (1000 < depth (v.infix_ o i x z)))
-within_infix k d.itself e h = inr (same_place e, h)
-within_infix {y} k (d.left w) e h = inl (inl (deep_in y w e h))
-within_infix {y} k (d.right w) e h = inl (inr (deep_in y w e h))
+within_infix k complete.itself e h = inr (same_place e, h)
+within_infix {y} k (complete.left w) e h = inl (inl (deep_in y w e h))
+within_infix {y} k (complete.right w) e h = inl (inr (deep_in y w e h))
 
 within_choice : {y x z u : Tree} {i : ℕ} (k : ℕ) → Within y (v.choice i x z u) → operator_of y ≡ Some k → 1000 < depth y → ((HasDeep x k ⊎ HasDeep z k) ⊎ HasDeep u k) ⊎ ((k ≡ i) × (1000 < depth (v.choice i x z u)))
-within_choice k d.itself e h = inr (same_place e, h)
-within_choice {y} k (d.condition w) e h = inl (inl (inl (deep_in y w e h)))
-within_choice {y} k (d.then_part w) e h = inl (inl (inr (deep_in y w e h)))
-within_choice {y} k (d.else_part w) e h = inl (inr (deep_in y w e h))
+within_choice k complete.itself e h = inr (same_place e, h)
+within_choice {y} k (complete.condition w) e h = inl (inl (inl (deep_in y w e h)))
+within_choice {y} k (complete.then_part w) e h = inl (inl (inr (deep_in y w e h)))
+within_choice {y} k (complete.else_part w) e h = inl (inr (deep_in y w e h))
 
 record HasDeepAny (xs : Trees) (at : ℕ) : Type 0 where
   pub deep : Tree
@@ -211,43 +213,43 @@ record HasDeepAny (xs : Trees) (at : ℕ) : Type 0 where
   pub deeper : 1000 < depth deep
 
 within_method : {y x : Tree} {xs : Trees} {i : ℕ} (k : ℕ) → Within y (v.method i x xs) → operator_of y ≡ Some k → 1000 < depth y → (HasDeep x k ⊎ HasDeepAny xs k) ⊎ ((k ≡ i) × (1000 < depth (v.method i x xs)))
-within_method k d.itself e h = inr (same_place e, h)
-within_method {y} k (d.receiver w) e h = inl (inl (deep_in y w e h))
-within_method {y} k (d.argument w) e h = inl (inr (record { deep = y; within = w; operator = e; deeper = h }))
+within_method k complete.itself e h = inr (same_place e, h)
+within_method {y} k (complete.receiver w) e h = inl (inl (deep_in y w e h))
+within_method {y} k (complete.argument w) e h = inl (inr (record { deep = y; within = w; operator = e; deeper = h }))
 
 within_brackets : {y x : Tree} {i : ℕ} {s : Sort} (k : ℕ) → Within y (v.ascribed i x s) → operator_of y ≡ Some k → 1000 < depth y → HasDeep x k
-within_brackets k d.itself e h = cc
-within_brackets {y} k (d.in_brackets w) e h = deep_in y w e h
+within_brackets k complete.itself e h = cc
+within_brackets {y} k (complete.in_brackets w) e h = deep_in y w e h
 
 within_and : {y x : Tree} {xs : Trees} (k : ℕ) → WithinAny y (v.and x xs) → operator_of y ≡ Some k → 1000 < depth y → HasDeep x k ⊎ HasDeepAny xs k
-within_and {y} k (d.first w) e h = inl (deep_in y w e h)
-within_and {y} k (d.further w) e h = inr (record { deep = y; within = w; operator = e; deeper = h })
+within_and {y} k (complete.first w) e h = inl (deep_in y w e h)
+within_and {y} k (complete.further w) e h = inr (record { deep = y; within = w; operator = e; deeper = h })
 
 no_name : {y : Tree} {i k : ℕ} → Within y (v.name i) → operator_of y ≡ Some k → ⊥
-no_name d.itself e = cc
+no_name complete.itself e = cc
 
 no_numeral : {y : Tree} {i k : ℕ} → Within y (v.numeral i) → operator_of y ≡ Some k → ⊥
-no_numeral d.itself e = cc
+no_numeral complete.itself e = cc
 
 no_literal : {y : Tree} {i w k : ℕ} → Within y (v.literal i w) → operator_of y ≡ Some k → ⊥
-no_literal d.itself e = cc
+no_literal complete.itself e = cc
 
 no_constant : {y : Tree} {c : Word} {i k : ℕ} → Within y (v.constant c i) → operator_of y ≡ Some k → ⊥
-no_constant d.itself e = cc
+no_constant complete.itself e = cc
 
 mutual
-  least_noted : (x : Tree) (l : Option ℕ) → Least (HasDeep x) l (noted x l)
+  pub least_noted : (x : Tree) (l : Option ℕ) → Least (HasDeep x) l (noted x l)
   least_noted (v.name i) l = none_of (λ k h. no_name h.within h.operator)
   least_noted (v.numeral i) l = none_of (λ k h. no_numeral h.within h.operator)
   least_noted (v.literal i w) l = none_of (λ k h. no_literal h.within h.operator)
   least_noted (v.constant c i) l = none_of (λ k h. no_constant h.within h.operator)
   least_noted (v.prefix o i x) l = changed
-      (λ k p. elim p [ inl a ↦ deep_in a.deep (d.operand a.within) a.operator a.deeper | inr b ↦ deep_here (v.prefix o i x) i k refl b ])
+      (λ k p. elim p [ inl a ↦ deep_in a.deep (complete.operand a.within) a.operator a.deeper | inr b ↦ deep_here (v.prefix o i x) i k refl b ])
       (λ k h. within_prefix k h.within h.operator h.deeper)
       (both (least_noted x l) (noting i (depth x + 1) (noted x l)))
   least_noted (v.infix_ o i x y) l = changed
       (λ k p. elim p [
-        | inl a ↦ elim a [ inl b ↦ deep_in b.deep (d.left b.within) b.operator b.deeper | inr c ↦ deep_in c.deep (d.right c.within) c.operator c.deeper ]
+        | inl a ↦ elim a [ inl b ↦ deep_in b.deep (complete.left b.within) b.operator b.deeper | inr c ↦ deep_in c.deep (complete.right c.within) c.operator c.deeper ]
         | inr b ↦ deep_here (v.infix_ o i x y) i k refl b
       ])
       (λ k h. within_infix k h.within h.operator h.deeper)
@@ -255,8 +257,8 @@ mutual
   least_noted (v.choice i x y z) l = changed
       (λ k p. elim p [
         | inl a ↦ elim a [
-          | inl b ↦ elim b [ inl c ↦ deep_in c.deep (d.condition c.within) c.operator c.deeper | inr c ↦ deep_in c.deep (d.then_part c.within) c.operator c.deeper ]
-          | inr c ↦ deep_in c.deep (d.else_part c.within) c.operator c.deeper
+          | inl b ↦ elim b [ inl c ↦ deep_in c.deep (complete.condition c.within) c.operator c.deeper | inr c ↦ deep_in c.deep (complete.then_part c.within) c.operator c.deeper ]
+          | inr c ↦ deep_in c.deep (complete.else_part c.within) c.operator c.deeper
         ]
         | inr b ↦ deep_here (v.choice i x y z) i k refl b
       ])
@@ -264,19 +266,19 @@ mutual
       (both (both (both (least_noted x l) (least_noted y (noted x l))) (least_noted z (noted y (noted x l)))) (noting i (max (depth x) (max (depth y) (depth z)) + 1) (noted z (noted y (noted x l)))))
   least_noted (v.method i x xs) l = changed
       (λ k p. elim p [
-        | inl a ↦ elim a [ inl b ↦ deep_in b.deep (d.receiver b.within) b.operator b.deeper | inr c ↦ deep_in c.deep (d.argument c.within) c.operator c.deeper ]
+        | inl a ↦ elim a [ inl b ↦ deep_in b.deep (complete.receiver b.within) b.operator b.deeper | inr c ↦ deep_in c.deep (complete.argument c.within) c.operator c.deeper ]
         | inr b ↦ deep_here (v.method i x xs) i k refl b
       ])
       (λ k h. within_method k h.within h.operator h.deeper)
       (both (both (least_noted x l) (least_all xs (noted x l))) (noting i (max (depth x) (depths xs) + 1) (noted_all xs (noted x l))))
-  least_noted (v.ascribed i x s) l = changed (λ k a. deep_in a.deep (d.in_brackets a.within) a.operator a.deeper) (λ k h. within_brackets k h.within h.operator h.deeper) (least_noted x l)
+  least_noted (v.ascribed i x s) l = changed (λ k a. deep_in a.deep (complete.in_brackets a.within) a.operator a.deeper) (λ k h. within_brackets k h.within h.operator h.deeper) (least_noted x l)
 
   least_all : (xs : Trees) (l : Option ℕ) → Least (HasDeepAny xs) l (noted_all xs l)
   least_all v.no_more l = none_of (λ k h. elim h.within [ ])
   least_all (v.and x xs) l = changed
       (λ k p. elim p [
-        | inl a ↦ record { deep = a.deep; within = d.first a.within; operator = a.operator; deeper = a.deeper }
-        | inr b ↦ record { deep = b.deep; within = d.further b.within; operator = b.operator; deeper = b.deeper }
+        | inl a ↦ record { deep = a.deep; within = complete.first a.within; operator = a.operator; deeper = a.deeper }
+        | inr b ↦ record { deep = b.deep; within = complete.further b.within; operator = b.operator; deeper = b.deeper }
       ])
       (λ k h. within_and k h.within h.operator h.deeper)
       (both (least_noted x l) (least_all xs (noted x l)))
@@ -298,16 +300,16 @@ least_list [] l = none_of (λ k h. none_deep h)
 least_list (x ∷ xs) l = changed (λ k p. elim p [ inl a ↦ d.this a | inr b ↦ d.another b ]) (λ k h. deep_cases h) (both (least_noted x l) (least_list xs (noted x l)))
 
 loose_tells : {o : Piece} (s : List Part) (l : Option ℕ) → IsLoose o → tell o (mk s l) ≡ mk (step o s) l
-loose_tells s l d.a_call = refl
-loose_tells s l d.a_goal = refl
-loose_tells s l d.some_variables = refl
-loose_tells s l d.a_proof = refl
+loose_tells s l complete.a_call = refl
+loose_tells s l complete.a_goal = refl
+loose_tells s l complete.some_variables = refl
+loose_tells s l complete.a_proof = refl
 
 least_held : {ps : List Piece} {xs : List Tree} (s : List Part) (l : Option ℕ) → Holds ps xs → (measure ps (mk s l)).least ≡ noted_list xs l
-least_held s l d.nothing = refl
-least_held s l (d.a_term {x = x} {ps = ps} h) =
+least_held s l complete.nothing = refl
+least_held s l (complete.a_term {x = x} {ps = ps} h) =
     ap (λ m. m.least) (measure-append (pieces x) ps (mk s l) ∙ ap (measure ps) (measured x s l)) ∙ least_held (put (depth x) s) (noted x l) h
-least_held s l (d.loose {o = o} {ps = ps} q h) = ap (λ m. (measure ps m).least) (loose_tells s l q) ∙ least_held (step o s) l h
+least_held s l (complete.loose {o = o} {ps = ps} q h) = ap (λ m. (measure ps m).least) (loose_tells s l q) ∙ least_held (step o s) l h
 
 first_by : (xs : List Tree) (o : Option ℕ) → Least (AnyDeep xs) None o → IsFirstDeep xs o
 first_by xs (Some at) h = (elim (h.from at refl) [ inl a ↦ a | inr e ↦ (cc) ], λ k a. let r = h.covers k a in subst (λ q. q ≤ k) (same_place r.1) r.2)
@@ -319,12 +321,12 @@ first_deep ps o e xs h = first_by xs o (subst (λ q. Least (AnyDeep xs) None q) 
 -- goals hold their terms
 holds_binders : (bs : List Binder) {ps : List Piece} {xs : List Tree} → Holds ps xs → Holds (binder_pieces bs ++ ps) (hypotheses bs ++ xs)
 holds_binders [] h = h
-holds_binders (v.variables i j s ∷ bs) h = d.loose d.some_variables (holds_binders bs h)
-holds_binders (v.hypothesis x ∷ bs) {ps} {xs} h = subst (λ q. Holds q (x ∷ (hypotheses bs ++ xs))) (sym (append_assoc (pieces x) (binder_pieces bs) ps)) (d.a_term (holds_binders bs h))
+holds_binders (v.variables i j s ∷ bs) h = complete.loose complete.some_variables (holds_binders bs h)
+holds_binders (v.hypothesis x ∷ bs) {ps} {xs} h = subst (λ q. Holds q (x ∷ (hypotheses bs ++ xs))) (sym (append_assoc (pieces x) (binder_pieces bs) ps)) (complete.a_term (holds_binders bs h))
 
 pub goals_hold : (gs : List Goal) → Holds (goal_pieces gs) (terms_of gs)
-goals_hold [] = d.nothing
-goals_hold (g ∷ gs) = d.loose d.a_goal (holds_binders g.binders (d.a_term (d.loose d.a_proof (goals_hold gs))))
+goals_hold [] = complete.nothing
+goals_hold (g ∷ gs) = complete.loose complete.a_goal (holds_binders g.binders (complete.a_term (complete.loose complete.a_proof (goals_hold gs))))
 
 -- what the loop over pieces keeps
 rest_is : (ps : List Piece) (i : ℕ) (o : Piece) → slice_get ps i ≡ Some o → drop i ps ≡ o ∷ drop (i + 1) ps

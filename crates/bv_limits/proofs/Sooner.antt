@@ -15,7 +15,7 @@ use Rattle.bv_limits.proofs.Chosen.{before, not_before, onward}
 use Rattle.bv_limits.proofs.First.{rank_back, rank_again, both_before}
 
 -- the limits of one kind and of another
-abbrev Both : (What → ℕ → Type 0) → (What → ℕ → Type 0) → (What → ℕ → Type 0) → Type 0
+abbrev pub Both : (What → ℕ → Type 0) → (What → ℕ → Type 0) → (What → ℕ → Type 0) → Type 0
 Both p q r = ((w : What) (k : ℕ) → p w k → r w k) × ((w : What) (k : ℕ) → q w k → r w k) × ((w : What) (k : ℕ) → r w k → p w k ⊎ q w k)
 
 of_two : (p q r : What → ℕ → Type 0) → Both p q r → (m n : Met) (b : Bool) → IsLeast p (Some m) → IsLeast q (Some n) → is_before m n ≡ b → IsLeast r (if b then Some m else Some n)
@@ -36,7 +36,7 @@ of_two p q r u m n false f g e = (u.1 n.what n.at g.0, all)
     all : (w : What) (k : ℕ) → r w k → IsBefore n.at n.what k w
     all w k h = either w k (u.2 w k h)
 
-sooner_least : (p q r : What → ℕ → Type 0) → Both p q r → (m n : Option Met) → IsLeast p m → IsLeast q n → IsLeast r (sooner m n)
+pub sooner_least : (p q r : What → ℕ → Type 0) → Both p q r → (m n : Option Met) → IsLeast p m → IsLeast q n → IsLeast r (sooner m n)
 sooner_least p q r u None None f g = none
   where
     either : (w : What) (k : ℕ) → p w k ⊎ q w k → ⊥
@@ -67,7 +67,7 @@ sooner_least p q r u (Some m) (Some n) f g = of_two p q r u m n (is_before m n) 
 abbrev IsDeep : List Tree → What → ℕ → Type 0
 IsDeep xs w k = (w ≡ what.Depth) × AnyDeep xs k
 
-at_or_behind : (m n : ℕ) → m ≤ n → (m < n) ⊎ ((m ≡ n) × (2 ≤ 2))
+pub at_or_behind : (m n : ℕ) → m ≤ n → (m < n) ⊎ ((m ≡ n) × (2 ≤ 2))
 at_or_behind m n h = grind arith
 
 deep_least : (xs : List Tree) (found : Option ℕ) → IsFirstDeep xs found → IsLeast (IsDeep xs) (depth found)
@@ -77,7 +77,7 @@ deep_least xs (Some at) f = ((refl, f.0), all)
     all : (w : What) (k : ℕ) → IsDeep xs w k → IsBefore at what.Depth k w
     all w k (e, h) = subst (λ v. IsBefore at what.Depth k v) (sym e) (at_or_behind at k (f.1 k h))
 
-counted_least : (tokens : List Token) (ts : List Terminal) (end : ℕ) (o : Option Met) → IsFirstCounted tokens ts end o → IsLeast (IsCountedLimit tokens ts end) o
+pub counted_least : (tokens : List Token) (ts : List Terminal) (end : ℕ) (o : Option Met) → IsFirstCounted tokens ts end o → IsLeast (IsCountedLimit tokens ts end) o
 counted_least tokens ts end None f = f
 counted_least tokens ts end (Some m) f = f
 

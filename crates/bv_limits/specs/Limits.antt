@@ -11,10 +11,11 @@ use Rattle.bv_grammar.specs.declared.words.Role.{Role}
 use Rattle.bv_grammar.specs.Derivation.{IsFile, IsSyntaxFault}
 use Rattle.bv_grammar.specs.Taking.{IsTakenAs, waiting}
 use Rattle.bv_trees.specs.Trees.{Tree}
+use Rattle.bv_trees.specs.Complete.{Complete}
 use Rattle.bv_limits.specs.declared.plain.Met.{Met}
 use Rattle.bv_limits.specs.Roles.{IsRole, IsHead, IsTermToken, IsVariable}
 use Rattle.bv_limits.specs.Counts.{Count}
-use Rattle.bv_limits.specs.Depths.{depth, Complete}
+use Rattle.bv_limits.specs.Depths.{depth}
 
 -- the head of the goal in which i stands is at h
 pub record IsHeadOf (ts : List Terminal) (h i : ℕ) : Type 0 where
@@ -50,10 +51,10 @@ pub data IsCountedLimit (tokens : List Token) (ts : List Terminal) (end : ℕ) :
   plain : {w : What} {at : ℕ} → IsPlainLimit tokens ts end w at → IsCountedLimit tokens ts end w at
   variables : {at : ℕ} → IsTooMany ts end at → IsCountedLimit tokens ts end what.Variables at
 
--- Or by a term that is complete and deeper than 1,000.
+-- Or by a term that is deeper than 1,000 and complete behind the first `end` terminals at the latest.
 pub data IsLimit (tokens : List Token) (ts : List Terminal) (end : ℕ) : What → ℕ → Type 0 where
   counted : {w : What} {at : ℕ} → IsCountedLimit tokens ts end w at → IsLimit tokens ts end w at
-  deep : {at j : ℕ} {x : Tree} → at < end → Complete ts at x j → j ≤ end → 1000 < depth x → IsLimit tokens ts end what.Depth at
+  deep : {at j : ℕ} {x : Tree} → Complete ts at x j → j ≤ end → 1000 < depth x → IsLimit tokens ts end what.Depth at
 
 -- the order in which limits at one token are answered
 abbrev pub rank : What → ℕ

@@ -2,9 +2,10 @@
 
 ghost use Rattle.std.specs.Prelude.{◌≡◌, ◌+◌, ◌<◌, IfOk, List, [], ◌∷◌, length, slice_get, max, Some};
 ghost use Rattle.bv_trees.specs.Trees.{Tree};
+ghost use Rattle.bv_trees.specs.Complete.{Holds};
 ghost use Rattle.bv_limits.specs.Depths as depths;
 ghost use Rattle.bv_limits.specs.Measuring as spec;
-ghost use Rattle.bv_limits.specs.Deep.{Holds, IsFirstDeep};
+ghost use Rattle.bv_limits.specs.Deep.{IsFirstDeep};
 
 use bv_grammar::Word;
 use bv_trees::Piece;
@@ -47,7 +48,8 @@ pub fn first_deep_term(alloc: Global, pieces: &[Piece]) -> Result<Option<usize>,
     Ok(found)
 }
 
-fn least_deep(alloc: Global, pieces: &[Piece]) -> Result<Option<usize>, AllocError>
+/// The least place of a deep one, by these pieces.
+pub(crate) fn least_deep(alloc: Global, pieces: &[Piece]) -> Result<Option<usize>, AllocError>
     ensures { IfOk result (λ found. found ≡ (spec.measure pieces.now spec.start).least) }
 {
     let mut parts = Parts::new(alloc);

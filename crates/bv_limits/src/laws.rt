@@ -6,7 +6,8 @@ ghost use Rattle.bv_lex.specs.declared.fault.What.{What};
 ghost use Rattle.bv_grammar.specs.declared.words.Terminal.{Terminal};
 ghost use Rattle.bv_trees.specs.Trees.{Goal};
 ghost use Rattle.bv_trees.specs.Codes.{goal_pieces};
-ghost use Rattle.bv_limits.specs.Deep.{Holds, terms_of};
+ghost use Rattle.bv_trees.specs.Complete.{Holds};
+ghost use Rattle.bv_limits.specs.Deep.{terms_of};
 ghost use Rattle.bv_limits.specs.Limits.{IsFirstLimit};
 
 /// The first limit of a file has one place and is of one kind.

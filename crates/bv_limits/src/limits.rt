@@ -2,21 +2,22 @@
 
 ghost use Rattle.std.specs.Prelude.{◌≡◌, IfOk, List, length};
 ghost use Rattle.bv_grammar.specs.declared.words.Terminal.{Terminal};
+ghost use Rattle.bv_grammar.specs.Derivation.{IsSyntaxFault};
 ghost use Rattle.bv_grammar.specs.Taking.{AreTaken};
 ghost use Rattle.bv_trees.specs.Trees.{Goal};
 ghost use Rattle.bv_trees.specs.Codes.{goal_pieces};
 ghost use Rattle.bv_limits.specs.Choosing as spec;
 ghost use Rattle.bv_limits.specs.Files.{IsLeast, IsMetIn};
-ghost use Rattle.bv_limits.specs.Limits.{IsFirstCounted};
+ghost use Rattle.bv_limits.specs.Limits.{IsFirstCounted, IsLimit};
 ghost use Rattle.bv_limits.specs.Limits as limits;
 
-use crate::depths::first_deep_term;
+use crate::depths::{first_deep_term, least_deep};
 use crate::laws::pieces_hold_terms;
 use crate::plain::{Met, first_plain_limit};
 use crate::variables::first_variable_limit;
 use bv_grammar::Taken;
 use bv_lex::{Token, What};
-use bv_trees::Piece;
+use bv_trees::{Piece, complete_pieces};
 use std::alloc::{AllocError, Global};
 
 /// The first limit of a whole file, whose tokens are taken so and whose goals have these pieces: of those that counts tell, and
@@ -33,6 +34,22 @@ pub fn first_limit(
     pieces_hold_terms();
     let counted = first_counted_limit(tokens, taken);
     let deep = depth(first_deep_term(alloc, pieces)?);
+    Ok(sooner(counted, deep))
+}
+
+/// The first limit of a file that is cut short behind these tokens, which are taken so: of those that counts tell, and that on
+/// the depth of terms that are complete there. Of several at one token that is told which stands first in `What`. The error is
+/// want of memory alone. Takes time linear in the file, and nothing recurses.
+pub fn first_limit_before(
+    alloc: Global,
+    tokens: &[Token],
+    taken: &[Taken],
+) -> Result<Option<Met>, AllocError>
+    ensures { IfOk result (λ met. (ts : List Terminal) → AreTaken ts taken.now → IsSyntaxFault ts (length taken.now) → IsLeast (IsLimit tokens.now ts (length taken.now)) met) }
+{
+    let counted = first_counted_limit(tokens, taken);
+    let pieces = complete_pieces(alloc, taken)?;
+    let deep = depth(least_deep(alloc, &pieces)?);
     Ok(sooner(counted, deep))
 }
 

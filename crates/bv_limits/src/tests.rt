@@ -1,7 +1,8 @@
 //! Limits by hand.
 
-use crate::{first_deep_term, first_variable_limit};
+use crate::{Met, first_deep_term, first_limit_before, first_variable_limit};
 use bv_grammar::{Role, Taken, Word};
+use bv_lex::What;
 use bv_trees::Piece;
 use std::alloc::{AllocError, Global};
 
@@ -58,5 +59,35 @@ fn the_first_of_too_many_signs_is_told(rt: HostRuntime) -> Result<(), AllocError
     assert_eq!(rt; first_deep_term(rt.alloc(), &within)?, None);
     let deep = signs(rt.alloc(), 1001)?;
     assert_eq!(rt; first_deep_term(rt.alloc(), &deep)?, Some(0));
+    Ok(())
+}
+
+/// example : - - .. - x, cut short behind it: the first sign is told before the last, at which too many wait; where no operand
+/// is there yet, the last is told.
+#[test]
+fn signs_before_a_cut_are_measured_with_their_operand(rt: HostRuntime) -> Result<(), AllocError> {
+    let mut taken = Vec::new(rt.alloc());
+    take(&mut taken, 1, Role::Word(Word::Example))?;
+    take(&mut taken, 1, Role::Word(Word::Colon))?;
+    for sign in 0..1001 {
+        taken.push(Taken {
+            role: Role::Prefix(Word::Minus),
+            waiting: sign + 1,
+        })?;
+    }
+    let last = Met {
+        what: What::Depth,
+        at: 1002,
+    };
+    assert_eq!(rt; first_limit_before(rt.alloc(), &[], &taken)?, Some(last));
+    taken.push(Taken {
+        role: Role::Variable,
+        waiting: 1001,
+    })?;
+    let first = Met {
+        what: What::Depth,
+        at: 2,
+    };
+    assert_eq!(rt; first_limit_before(rt.alloc(), &[], &taken)?, Some(first));
     Ok(())
 }

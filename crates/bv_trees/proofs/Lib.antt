@@ -6,3 +6,13 @@ pub mod Whole
 pub mod Settling
 pub mod OfTerms
 pub mod OfFiles
+pub mod Determined
+pub mod Parts
+pub mod Reached
+pub mod Held
+pub mod Standing
+pub mod Steps
+pub mod Inside
+pub mod Going
+pub mod Completed
+pub mod Heads

@@ -27,7 +27,7 @@ use Rattle.bv_trees.specs.Terms.{IsAt, IsWord, IsNot, SortAt, Term, Operand, Tai
 use Rattle.bv_trees.specs.Codes.{pieces}
 use Rattle.bv_trees.specs.Codes as codes
 use Rattle.bv_trees.specs.Building as b
-use Rattle.bv_trees.specs.Building.{Building, method_of, piece_of, on_role, on_word, role_of, run, complete, wait, put, number, sort_behind, point, close}
+use Rattle.bv_trees.specs.Building.{Building, method_of, piece_of, leaves, in_last_part, on_role, on_word, role_of, run, complete, wait, put, number, sort_behind, point, close}
 use Rattle.bv_trees.proofs.Derived.{by_sort, by_term, by_operand, by_atom, by_literal, by_dots}
 use Rattle.bv_trees.proofs.Settling.{st, Inner, none, unwound, completed, left_bracket, inner_behind, unwound_behind}
 
@@ -77,14 +77,14 @@ pub record After (xs : List Taken) (fs : List Frame) (g : Option ℕ) (n : ℕ) 
   pub stands : run xs j ≡ st (inner ++ fs) method g n so_far
   pub gives : so_far ++ (b.closing method ++ unwound inner) ≡ ps
 
-after_as : {xs : List Taken} {fs : List Frame} {g : Option ℕ} {n : ℕ} {ps qs : List Piece} {j : ℕ} → ps ≡ qs → After xs fs g n ps j → After xs fs g n qs j
+pub after_as : {xs : List Taken} {fs : List Frame} {g : Option ℕ} {n : ℕ} {ps qs : List Piece} {j : ℕ} → ps ≡ qs → After xs fs g n ps j → After xs fs g n qs j
 after_as e a = record { inner = a.inner; method = a.method; so_far = a.so_far; open_ = a.open_; stands = a.stands; gives = a.gives ∙ e }
 
-at_rest : {xs : List Taken} {fs : List Frame} {g : Option ℕ} {n : ℕ} {ps : List Piece} {j : ℕ} → run xs j ≡ st fs None g n ps → After xs fs g n ps j
+pub at_rest : {xs : List Taken} {fs : List Frame} {g : Option ℕ} {n : ℕ} {ps : List Piece} {j : ℕ} → run xs j ≡ st fs None g n ps → After xs fs g n ps j
 at_rest {ps = ps} e = record { inner = []; method = None; so_far = ps; open_ = none; stands = e; gives = append-nil ps }
 
 -- what waits for the term has it
-under : {xs : List Taken} {f : Frame} {fs : List Frame} {g : Option ℕ} {n : ℕ} {ps : List Piece} {j : ℕ} → method_of f ≡ None → After xs (f ∷ fs) g n ps j → After xs fs g n (ps ++ piece_of f) j
+pub under : {xs : List Taken} {f : Frame} {fs : List Frame} {g : Option ℕ} {n : ℕ} {ps : List Piece} {j : ℕ} → leaves f ≡ true → After xs (f ∷ fs) g n ps j → After xs fs g n (ps ++ piece_of f) j
 under {f = f} {fs = fs} {g = g} {n = n} e a = record {
   inner = a.inner ++ f ∷ [];
   method = a.method;
@@ -102,17 +102,20 @@ pub on_complete : {ts : List Terminal} {xs : List Taken} {fs : List Frame} {g : 
     → waiting c ≡ length fs → After xs fs g n ps j → run xs (j + 1) ≡ st fs None g n ps
 on_complete w k h same e a = takes k h a.stands ∙ same _ ∙ rests _ e a
 
+pub on_else : {ts : List Terminal} {xs : List Taken} {fs : List Frame} {g : Option ℕ} {n i : ℕ} {ps : List Piece} {j : ℕ} {c : List Symbol} → AllTaken ts xs → IsTakenAs ts j (roles.Word words.Else) c → waiting c ≡ suc (length fs) → After xs (frame.Choice i ∷ fs) g n ps j → run xs (j + 1) ≡ st (frame.Otherwise i ∷ fs) None g n ps
+on_else k h e a = takes k h a.stands ∙ ap in_last_part (rests _ e a)
+
 left3 : (a x y z : List Piece) → (a ++ x) ++ (y ++ z) ≡ a ++ (x ++ (y ++ z))
 left3 a x y z = append_assoc a x (y ++ z)
 
-infix_pieces : (a x y z : List Piece) → ((a ++ x) ++ y) ++ z ≡ a ++ (x ++ (y ++ z))
+pub infix_pieces : (a x y z : List Piece) → ((a ++ x) ++ y) ++ z ≡ a ++ (x ++ (y ++ z))
 infix_pieces a x y z = append_assoc (a ++ x) y z ∙ append_assoc a x (y ++ z)
 
-choice_pieces : (a x y z c : List Piece) → (((a ++ x) ++ y) ++ z) ++ c ≡ a ++ (x ++ (y ++ (z ++ c)))
+pub choice_pieces : (a x y z c : List Piece) → (((a ++ x) ++ y) ++ z) ++ c ≡ a ++ (x ++ (y ++ (z ++ c)))
 choice_pieces a x y z c = append_assoc ((a ++ x) ++ y) z c ∙ infix_pieces a x y (z ++ c)
 
 -- a numeral without a width
-plain_number : (i : ℕ) (o : Option Role) → (o ≡ Some (roles.Word words.Hash) → ⊥) → number i o ≡ piece.Numeral i
+pub plain_number : (i : ℕ) (o : Option Role) → (o ≡ Some (roles.Word words.Hash) → ⊥) → number i o ≡ piece.Numeral i
 plain_number i None n = refl
 plain_number i (Some (roles.Word words.Hash)) n = absurd (n refl)
 plain_number i (Some _) n = refl
@@ -127,7 +130,7 @@ role_there i w k (Some x) e f =
 pub not_there : {ts : List Terminal} {xs : List Taken} (i : ℕ) (w : Word) → AllTaken ts xs → (IsWord ts w i → ⊥) → role_of (slice_get xs i) ≡ Some (roles.Word w) → ⊥
 not_there {xs = xs} i w k n e = n (role_there i w k (slice_get xs i) refl e)
 
-no_word : (ts : List Terminal) (i : ℕ) (w : Word) → IsNot ts (is_word w) i → IsWord ts w i → ⊥
+pub no_word : (ts : List Terminal) (i : ℕ) (w : Word) → IsNot ts (is_word w) i → IsWord ts w i → ⊥
 no_word ts i w n e = n (terminals.Word w) e this_word
 
 literal_run : {ts : List Terminal} {xs : List Taken} {fs : List Frame} {μ gl : Option ℕ} {n i j : ℕ} {x : Tree} {a : List Symbol} {ps : List Piece} → AllTaken ts xs → IsAt ts terminals.Numeral i → Literal ts i (i + 1) x j → Derives ts file 0 (atom ∷ a) i → run xs i ≡ st fs μ gl n ps → run xs j ≡ st fs μ gl n (ps ++ pieces x)
@@ -169,13 +172,13 @@ closing_run {ts} {xs} {fs} {μ} {gl} {n} {i} {x = x} {a = a} ps k (t.with_sort {
 same_is : (n : ℕ) → (n == n) ≡ true
 same_is n = grind arith
 
-point_closes : (m i : ℕ) (s : Building) → m + 1 ≡ i → point i (Some m) s ≡ close s
+pub point_closes : (m i : ℕ) (s : Building) → m + 1 ≡ i → point i (Some m) s ≡ close s
 point_closes m i s e = ap (λ q. if q then close s else s) (ap (λ k. m + 1 == k) (sym e) ∙ same_is (m + 1))
 
 other_is : (m n : ℕ) → m < n → (m == n) ≡ false
 other_is m n h = grind arith
 
-point_stays : (m i : ℕ) (s : Building) → m + 1 < i → point i (Some m) s ≡ s
+pub point_stays : (m i : ℕ) (s : Building) → m + 1 < i → point i (Some m) s ≡ s
 point_stays m i s h = ap (λ q. if q then close s else s) (other_is (m + 1) i h)
 
 dots_run : {ts : List Terminal} {xs : List Taken} {fs : List Frame} {gl : Option ℕ} {m n i j : ℕ} {x y : Tree} {a : List Symbol} (ps : List Piece) → AllTaken ts xs → Dots ts x i y j → Derives ts file 0 (dots ∷ a) i → m + 1 < i → run xs i ≡ st fs (Some m) gl n (ps ++ pieces x) → run xs j ≡ st fs (Some m) gl n (ps ++ pieces y)
@@ -198,13 +201,13 @@ atom_grows (t.a_constant c e) = omega arith
 atom_grows (t.bracket e x c) = omega (arith, grows (by_term x (here {a = []})), closing_grows c)
 
 -- the role of what begins an atom isn't a point
-call_pieces : (ps x args c m : List Piece) → ((ps ++ x) ++ c) ++ (args ++ m) ≡ ps ++ (x ++ (c ++ (args ++ m)))
+pub call_pieces : (ps x args c m : List Piece) → ((ps ++ x) ++ c) ++ (args ++ m) ≡ ps ++ (x ++ (c ++ (args ++ m)))
 call_pieces ps x args c m = append_assoc (ps ++ x) c (args ++ m) ∙ append_assoc ps x (c ++ (args ++ m))
 
-follow_operand : {ts : List Terminal} {p l i j : ℕ} {x : Tree} {a : List Symbol} → Derives ts file 0 (term p ∷ a) i → Operand ts i l x j → Derives ts file 0 (tail p l ∷ a) j
+pub follow_operand : {ts : List Terminal} {p l i j : ℕ} {x : Tree} {a : List Symbol} → Derives ts file 0 (term p ∷ a) i → Operand ts i l x j → Derives ts file 0 (tail p l ∷ a) j
 follow_operand r o = follow r (by_operand o here)
 
-one_fewer : {a n : ℕ} → a ≡ n → suc a - 1 ≡ n
+pub one_fewer : {a n : ℕ} → a ≡ n → suc a - 1 ≡ n
 one_fewer e = omega (arith, e)
 
 mutual
@@ -212,7 +215,7 @@ mutual
       → After xs fs gl n (ps ++ pieces x) j
   term_run ps k (t.term o u) r w h = tail_run ps k u (follow_operand r o) w (operand_run ps k o r w h)
 
-  operand_run : {ts : List Terminal} {xs : List Taken} {fs : List Frame} {gl : Option ℕ} {p l n i j : ℕ} {x : Tree} {a : List Symbol} (ps : List Piece) → AllTaken ts xs → Operand ts i l x j → Derives ts file 0 (term p ∷ a) i → terms_open a ≡ length fs → run xs i ≡ st fs None gl n ps
+  pub operand_run : {ts : List Terminal} {xs : List Taken} {fs : List Frame} {gl : Option ℕ} {p l n i j : ℕ} {x : Tree} {a : List Symbol} (ps : List Piece) → AllTaken ts xs → Operand ts i l x j → Derives ts file 0 (term p ∷ a) i → terms_open a ≡ length fs → run xs i ≡ st fs None gl n ps
       → After xs fs gl n (ps ++ pieces x) j
   operand_run {i = i} ps k (t.prefixed {w = w} {x = x} e q u) r o h =
       let r1 = on r (g.prefix q) in
@@ -224,7 +227,7 @@ mutual
       let b1 = on_complete {fs = frame.Choice i ∷ fs} words.Then k (taken_as r2 th) (λ s. refl) (ap suc o) a1 in
       let a2 = term_run (ps ++ pieces x) k u' (past r2 th) (ap suc o) b1 in
       let r3 = follow (past r2 th) (by_term u' here) in
-      let b2 = on_complete {fs = frame.Choice i ∷ fs} words.Else k (taken_as r3 el) (λ s. refl) (ap suc o) a2 in
+      let b2 = on_else k (taken_as r3 el) (ap suc o) a2 in
       let a3 = term_run ((ps ++ pieces x) ++ pieces y) k u'' (past r3 el) (ap suc o) b2 in
       after_as (choice_pieces ps (pieces x) (pieces y) (pieces z) (piece.Choice i ∷ [])) (under refl a3)
   operand_run ps k (t.called y m) r o h =
@@ -275,7 +278,7 @@ mutual
       let r3 = follow r2 (by_dots d here) in
       atoms_run (ps ++ pieces y) k u r3 o (omega (arith, b, atom_grows x, grows (by_dots d (here {a = []})))) h2 ∙ ap (λ q. st fs (Some m) gl n q) (append_assoc ps (pieces y) (codes.arguments ys))
 
-  atom_run : {ts : List Terminal} {xs : List Taken} {fs : List Frame} {μ gl : Option ℕ} {n i j : ℕ} {x : Tree} {a : List Symbol} (ps : List Piece) → AllTaken ts xs → Atom ts i x j → Derives ts file 0 (atom ∷ a) i → waiting a ≡ length fs → terms_open a ≡ suc (length fs) → run xs i ≡ st fs μ gl n ps
+  pub atom_run : {ts : List Terminal} {xs : List Taken} {fs : List Frame} {μ gl : Option ℕ} {n i j : ℕ} {x : Tree} {a : List Symbol} (ps : List Piece) → AllTaken ts xs → Atom ts i x j → Derives ts file 0 (atom ∷ a) i → waiting a ≡ length fs → terms_open a ≡ suc (length fs) → run xs i ≡ st fs μ gl n ps
       → run xs j ≡ st fs μ gl n (ps ++ pieces x)
   atom_run ps k (t.named e) r w o h = takes k (taken_as (on r g.a_variable) e) h
   atom_run ps k (t.number e l) r w o h = literal_run k e l r h

@@ -1,5 +1,5 @@
 -- How the pieces of a file are put together.
-use Rattle.std.specs.Prelude.{ℕ, zero, suc, ◌+◌, ◌-◌, ◌==◌, List, [], ◌∷◌, ◌++◌, length, Option, Some, None, slice_get, if◌then◌else◌}
+use Rattle.std.specs.Prelude.{ℕ, zero, suc, ◌+◌, ◌-◌, ◌==◌, Bool, true, false, List, [], ◌∷◌, ◌++◌, length, Option, Some, None, slice_get, if◌then◌else◌}
 use Rattle.bv_grammar.specs.declared.words.Word.{Word}
 use Rattle.bv_grammar.specs.declared.words.Word.TheVariants as words
 use Rattle.bv_grammar.specs.declared.words.Role.{Role}
@@ -45,6 +45,7 @@ abbrev pub piece_of : Frame → List Piece
 piece_of (frame.Prefix w i) = piece.Prefix w i ∷ []
 piece_of (frame.Infix w i) = piece.Infix w i ∷ []
 piece_of (frame.Choice i) = piece.Choice i ∷ []
+piece_of (frame.Otherwise i) = piece.Choice i ∷ []
 piece_of (frame.Bracket m) = []
 
 abbrev pub method_of : Frame → Option ℕ
@@ -67,6 +68,14 @@ settle (suc n) b = settle n (leave b)
 -- all but so many
 abbrev pub complete : ℕ → Building → Building
 complete keep b = close (settle (length b.frames - keep) b)
+
+-- the last part of an `if` begins
+abbrev pub otherwise : List Frame → List Frame
+otherwise (frame.Choice i ∷ fs) = frame.Otherwise i ∷ fs
+otherwise fs = fs
+
+abbrev pub in_last_part : Building → Building
+in_last_part b = record b { frames = otherwise b.frames }
 
 abbrev pub wait : Frame → Building → Building
 wait f b = record b { frames = f ∷ b.frames; method = None }
@@ -111,7 +120,7 @@ head_ends i b = named i b.goal b
 abbrev pub on_word : ℕ → Word → ℕ → Option Role → Building → Building
 on_word i words.If w next b = wait (frame.Choice i) b
 on_word i words.Then w next b = complete w b
-on_word i words.Else w next b = complete w b
+on_word i words.Else w next b = in_last_part (complete w b)
 on_word i words.RightRound w next b = settle (length b.frames - w) b
 on_word i words.Dot w next b = point i b.method b
 on_word i words.Theorem w next b = record b { goal = Some i }
@@ -152,3 +161,37 @@ step i (Some x) next b = on_role i x.role x.waiting next b
 abbrev pub run : List Taken → ℕ → Building
 run xs zero = start
 run xs (suc n) = step n (slice_get xs n) (role_of (slice_get xs (n + 1))) (run xs n)
+
+-- whether what waits has its operands where a term ends: all but brackets and the first parts of an `if`
+abbrev pub leaves : Frame → Bool
+leaves (frame.Prefix w i) = true
+leaves (frame.Infix w i) = true
+leaves (frame.Otherwise i) = true
+leaves (frame.Choice i) = false
+leaves (frame.Bracket m) = false
+
+abbrev pub is_left : List Frame → Bool
+is_left [] = false
+is_left (f ∷ fs) = leaves f
+
+-- as many of the innermost as have them
+abbrev pub front : List Frame → ℕ
+front [] = 0
+front (f ∷ fs) = if leaves f then suc (front fs) else 0
+
+-- whether a term isn't complete behind this: an operand follows, or what goes on with one
+abbrev pub is_open : Option Role → Bool
+is_open (Some (roles.Prefix w)) = true
+is_open (Some (roles.Infix w)) = true
+is_open (Some (roles.Word words.Else)) = true
+is_open (Some (roles.Word words.Dot)) = true
+is_open (Some (roles.Word words.Hash)) = true
+is_open _ = false
+
+-- what is complete at the end of what is reached, behind this role
+abbrev pub ended : Option Role → Building → Building
+ended last b = if is_open last then b else close (settle (front b.frames) b)
+
+-- the pieces of what is complete behind terminals that are taken so
+abbrev pub complete_pieces : List Taken → List Piece
+complete_pieces xs = (ended (role_of (slice_get xs (length xs - 1))) (run xs (length xs))).pieces

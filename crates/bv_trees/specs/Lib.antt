@@ -4,3 +4,4 @@ pub mod Files
 pub mod Laws
 pub mod Codes
 pub mod Building
+pub mod Complete

@@ -14,7 +14,10 @@ use std::marker::Model;
 pub(crate) enum Frame {
     Prefix(Word, usize),
     Infix(Word, usize),
+    /// An `if`, before its last part.
     Choice(usize),
+    /// An `if` in its last part.
+    Otherwise(usize),
     /// A bracket, with the method that has it as an argument.
     Bracket(Option<usize>),
 }
@@ -60,6 +63,27 @@ impl Frames {
         ensures { result ≡ length self.now }
     {
         self.waiting.len()
+    }
+
+    /// The last part of an `if` begins.
+    fn otherwise(&mut self) -> Result<(), AllocError>
+        ensures { IfOk result (λ _. self.new ≡ spec.otherwise self.old) }
+    {
+        match self.pop() {
+            Some(Frame::Choice(at)) => self.push(Frame::Otherwise(at)),
+            Some(frame) => self.push(frame),
+            None => Ok(()),
+        }
+    }
+
+    /// Whether the innermost has its operands where a term ends.
+    fn is_left(&self) -> bool
+        ensures { result ≡ spec.is_left self.now }
+    {
+        match self.waiting.last() {
+            Some(frame) => leaves(*frame),
+            None => false,
+        }
     }
 }
 
@@ -147,7 +171,11 @@ impl Builder {
     {
         match word {
             Word::If => self.wait(Frame::Choice(at)),
-            Word::Then | Word::Else | Word::Assign => self.complete(waiting),
+            Word::Then | Word::Assign => self.complete(waiting),
+            Word::Else => {
+                self.complete(waiting)?;
+                self.frames.otherwise()
+            }
             Word::RightRound => {
                 let number = self.frames.len().saturating_sub(waiting);
                 self.settle(number)
@@ -198,7 +226,7 @@ impl Builder {
         match self.frames.pop() {
             Some(Frame::Prefix(word, at)) => self.put(Piece::Prefix(word, at)),
             Some(Frame::Infix(word, at)) => self.put(Piece::Infix(word, at)),
-            Some(Frame::Choice(at)) => self.put(Piece::Choice(at)),
+            Some(Frame::Choice(at) | Frame::Otherwise(at)) => self.put(Piece::Choice(at)),
             Some(Frame::Bracket(method)) => {
                 self.method = method;
                 Ok(())
@@ -217,6 +245,27 @@ impl Builder {
             self.leave()?;
         }
         Ok(())
+    }
+
+    /// As many of the innermost have as do where a term ends.
+    fn leave_front(&mut self) -> Result<(), AllocError>
+        ensures { IfOk result (λ _. self.new ≡ spec.settle (spec.front self.old.frames) self.old) }
+    {
+        while self.frames.is_left() {
+            self.leave()?;
+        }
+        Ok(())
+    }
+
+    /// What is reached ends behind this role.
+    pub(crate) fn end(&mut self, last: Option<Role>) -> Result<(), AllocError>
+        ensures { IfOk result (λ _. self.new ≡ spec.ended last self.old) }
+    {
+        if is_open(last) {
+            return Ok(());
+        }
+        self.leave_front()?;
+        self.close()
     }
 
     /// All but so many have, and the arguments of a method have ended.
@@ -325,5 +374,26 @@ fn sort_behind(at: usize, next: Option<Role>) -> Option<Sort>
         Some(Role::Word(Word::Bool)) => Some(Sort::Truth),
         Some(Role::Word(Word::BitVec)) => Some(Sort::Vector(at + 2)),
         _ => None,
+    }
+}
+
+/// Whether what waits has its operands where a term ends.
+fn leaves(frame: Frame) -> bool
+    ensures { result ≡ spec.leaves frame }
+{
+    match frame {
+        Frame::Prefix(_, _) | Frame::Infix(_, _) | Frame::Otherwise(_) => true,
+        Frame::Choice(_) | Frame::Bracket(_) => false,
+    }
+}
+
+/// Whether a term isn't complete behind this.
+fn is_open(last: Option<Role>) -> bool
+    ensures { result ≡ spec.is_open last }
+{
+    match last {
+        Some(Role::Prefix(_) | Role::Infix(_)) => true,
+        Some(Role::Word(Word::Else | Word::Dot | Word::Hash)) => true,
+        _ => false,
     }
 }

@@ -1,10 +1,7 @@
-use Rattle.std.proofs.Common.{◌≡◌, List, length, subst, sym}
-use Rattle.bv_grammar.specs.declared.words.Terminal.{Terminal}
-use Rattle.bv_grammar.specs.Taking.{AreTaken}
-use Rattle.bv_trees.specs.Trees.{Goal}
-use Rattle.bv_trees.specs.Codes.{goal_pieces}
+use Rattle.std.proofs.Common.{subst, sym}
 use Rattle.bv_limits.specs.Limits.{IsFirstCounted}
-use Rattle.bv_limits.specs.Deep.{Holds, terms_of}
+use Rattle.bv_trees.specs.Complete.{Holds}
+use Rattle.bv_limits.specs.Deep.{terms_of}
 use Rattle.bv_limits.proofs.Sooner.{met_least}
 use Rattle.bv_limits.proofs.limits.first_limit.Goals as goal
 

@@ -1,6 +1,6 @@
 use Rattle.std.proofs.Common.{◌≡◌, ◌≤◌, ◌-◌, length}
 use Rattle.bv_trees.specs.Building.{run}
-use Rattle.bv_trees.proofs.outline.put_together.Given as goal
+use Rattle.bv_trees.proofs.outline.built.Given as goal
 
 abbrev pub invariant-loop-at : goal.invariant-loop-at
 invariant-loop-at l = record {
