@@ -1,41 +1,31 @@
 -- The pieces of a typed tree, with their widths, put its item on the stack.
-use Rattle.std.proofs.Common.{◌≡◌, ℕ, zero, suc, ◌+◌, ◌<◌, ◌≤◌, Bool, true, false, ◌&&◌, ◌⊎◌, inl, inr, List, [], ◌∷◌, ◌++◌, Option, Some, None, refl, sym, ◌∙◌, ap, subst, arith, append_assoc}
-use Rattle.std.specs.Prelude.{nat_le, nat_lt, is_some, if◌then◌else◌, option_map, option_and_then}
-use Rattle.std.proofs.lemmas.Bool.{and_from, le-leb, lt-ltb, cond-true}
+use Rattle.std.proofs.Common.{◌≡◌, ℕ, ◌<◌, ◌≤◌, ◌&&◌, ◌⊎◌, inr, List, ◌∷◌, ◌++◌, Option, Some, None, sym, ◌∙◌, ap, subst, arith}
+use Rattle.std.specs.Prelude.{nat_le, is_some, if◌then◌else◌, option_and_then}
+use Rattle.std.proofs.lemmas.Bool.{and_from, le-leb, cond-true}
 use Rattle.std.proofs.lemmas.Option.{option_and_then_some}
-use Rattle.bv_value.specs.BitVector.{of_number}
 use Rattle.bv_grammar.specs.declared.words.Word.{Word}
 use Rattle.bv_grammar.specs.declared.words.Word.TheVariants as words
 use Rattle.bv_expr.specs.declared.ops.Sort.{Sort}
-use Rattle.bv_expr.specs.declared.ops.Sort.TheVariants.{Truth, Vector}
-use Rattle.bv_expr.specs.declared.ops.Unary.{Unary}
 use Rattle.bv_expr.specs.declared.ops.Unary.TheVariants as of
 use Rattle.bv_expr.specs.declared.ops.Binary.{Binary}
-use Rattle.bv_expr.specs.declared.ops.Binary.TheVariants as on
-use Rattle.bv_expr.specs.Term.{Term, constant, unary, binary, depth}
+use Rattle.bv_expr.specs.Term.{Term, unary, binary, depth}
 use Rattle.bv_expr.specs.Sorts.{unary_sort, sort_of}
 use Rattle.bv_trees.specs.declared.pieces.Piece.{Piece}
-use Rattle.bv_trees.specs.declared.pieces.Piece.TheVariants as piece
 use Rattle.bv_trees.specs.Trees.{Tree, Trees, name, numeral, literal, prefix, infix_, method, ascribed, no_more, and}
 use Rattle.bv_trees.specs.Trees as trees
-use Rattle.bv_trees.specs.Codes.{pieces, arguments}
+use Rattle.bv_trees.specs.Codes.{pieces}
 use Rattle.bv_limits.specs.Depths as of_tree
 use Rattle.bv_typing.specs.declared.item.Item.{Item}
-use Rattle.bv_typing.specs.declared.item.Item.TheVariants.{Number, Made}
+use Rattle.bv_typing.specs.declared.item.Item.TheVariants.{Made}
 use Rattle.bv_typing.specs.declared.kind.Kind.{Kind}
 use Rattle.bv_typing.specs.declared.kind.Kind.TheVariants as kind
-use Rattle.bv_typing.specs.declared.kind.Row.TheVariants as row
-use Rattle.bv_typing.specs.Source.{number_at}
-use Rattle.bv_typing.specs.Rows.{negation_row, prefix_row, binary_of, amount_row, append_row, infix_row, choice_row, method_row}
+use Rattle.bv_typing.specs.Rows.{prefix_row, binary_of, infix_row, choice_row, method_row}
 use Rattle.bv_typing.specs.Variables.{sort_at}
-use Rattle.bv_typing.specs.Readings.{Env, variable_at, method_at, kind_of, kinds, ascribed_to, width_in, width_for, width_of_sort, told_or, right_width, infix_width, either, negated, is_turned, variable_term, constant_term, prefix_unary, shift_unary, sort_in, joined_by, joined, infix_term, numeral_item, item_of, term, items, item}
-use Rattle.bv_terms.specs.Sorting.{IsWidth, read, Readable, Sorts, Bounded}
-use Rattle.bv_typing.specs.Stacks.{top, below}
-use Rattle.bv_terms.specs.Widths.{widths, all_widths}
-use Rattle.bv_terms.specs.Building as b
-use Rattle.bv_terms.specs.Building.{checked, is_expr, negated_item, joined_item, infix_item, unary_item, put, step, build}
+use Rattle.bv_typing.specs.Readings.{Env, variable_at, method_at, kind_of, kinds, ascribed_to, negated, is_turned, sort_in, joined_by, joined, term, item}
+use Rattle.bv_terms.specs.Sorting.{IsWidth, read, Readable, Bounded}
+use Rattle.bv_terms.specs.Widths.{widths}
+use Rattle.bv_terms.specs.Building.{checked, negated_item, joined_item, infix_item, unary_item, put, build}
 use Rattle.bv_terms.proofs.Inverted.{one_part, two_parts, three_parts, ascribed_part}
-use Rattle.bv_terms.proofs.Joining.{HasWidth, arithmetic_parts, plain_typed}
 use Rattle.bv_terms.proofs.Depths.{term_depth}
 use Rattle.bv_terms.proofs.Typed.{sorts}
 

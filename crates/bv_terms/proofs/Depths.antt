@@ -6,9 +6,8 @@ use Rattle.bv_grammar.specs.declared.words.Word.{Word}
 use Rattle.bv_grammar.specs.declared.words.Word.TheVariants as words
 use Rattle.bv_expr.specs.declared.ops.Sort.{Sort}
 use Rattle.bv_expr.specs.declared.ops.Sort.TheVariants.{Truth, Vector}
-use Rattle.bv_expr.specs.declared.ops.Unary.TheVariants as of
 use Rattle.bv_expr.specs.declared.ops.Binary.{Binary}
-use Rattle.bv_expr.specs.Term.{Term, constant, variable, truth, truth_variable, unary, binary, choice, truth_choice, depth}
+use Rattle.bv_expr.specs.Term.{Term, binary, depth}
 use Rattle.bv_trees.specs.Trees.{Tree, Trees, name, numeral, literal, prefix, infix_, method, ascribed, no_more, and}
 use Rattle.bv_trees.specs.Trees as trees
 use Rattle.bv_limits.specs.Depths as of_tree
@@ -21,7 +20,7 @@ use Rattle.bv_typing.specs.declared.method.Method.{Method}
 use Rattle.bv_typing.specs.declared.method.Method.TheVariants as by_method
 use Rattle.bv_typing.specs.Variables.{sort_at}
 use Rattle.bv_typing.specs.Rows.{binary_of}
-use Rattle.bv_typing.specs.Readings.{Env, variable_at, method_at, kind_of, told_or, right_width, infix_width, either, width_in, width_for, width_of_sort, negated, is_turned, variable_term, constant_term, joined_by, joined, sort_in, infix_term, choice_term, method_term, numeral_item, item_of, term, items}
+use Rattle.bv_typing.specs.Readings.{Env, variable_at, method_at, kind_of, told_or, right_width, infix_width, either, width_in, width_for, width_of_sort, negated, is_turned, variable_term, constant_term, joined_by, sort_in, infix_term, choice_term, method_term, numeral_item, item_of, term, items}
 
 abbrev pub item_depth : Item → ℕ
 item_depth (Number n) = 0

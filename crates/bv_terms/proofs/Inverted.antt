@@ -1,5 +1,5 @@
 -- What the parts of a typed tree are.
-use Rattle.std.proofs.Common.{◌≡◌, ℕ, ◌≤◌, Bool, true, false, List, [], ◌∷◌, Option, Some, None, refl, ap}
+use Rattle.std.proofs.Common.{◌≡◌, ℕ, ◌≤◌, Bool, true, false, List, ◌∷◌, Option, Some, None, refl, ap}
 use Rattle.std.specs.Prelude.{nat_le, if◌then◌else◌, option_map, option_and_then}
 use Rattle.std.proofs.lemmas.Bool.{leb-true}
 use Rattle.bv_expr.specs.declared.ops.Sort.{Sort}

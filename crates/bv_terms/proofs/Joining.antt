@@ -1,7 +1,7 @@
 -- Sorts of the terms that operators make of parts of fitting kinds.
-use Rattle.std.proofs.Common.{◌≡◌, ℕ, zero, suc, ◌+◌, ◌-◌, ◌≤◌, Bool, true, false, ◌&&◌, ◌||◌, List, [], ◌∷◌, Option, Some, None, refl, sym, ◌∙◌, ap, subst, arith}
-use Rattle.std.specs.Prelude.{◌==◌, nat_le, if◌then◌else◌, option_map, option_and_then}
-use Rattle.std.proofs.lemmas.Bool.{eqb-true, eq-eqb, leb-true, le-leb, and_parts, and_from, cond-true}
+use Rattle.std.proofs.Common.{◌≡◌, ℕ, ◌+◌, Bool, true, false, ◌&&◌, ◌||◌, Option, Some, None, refl, sym, ◌∙◌, ap, subst}
+use Rattle.std.specs.Prelude.{◌==◌, nat_le, if◌then◌else◌, option_and_then}
+use Rattle.std.proofs.lemmas.Bool.{eqb-true, eq-eqb, le-leb, and_from, cond-true}
 use Rattle.std.proofs.lemmas.Option.{cond_some, option_and_then_some}
 use Rattle.bv_grammar.specs.declared.words.Word.{Word}
 use Rattle.bv_grammar.specs.declared.words.Word.TheVariants as words
@@ -11,14 +11,14 @@ use Rattle.bv_expr.specs.declared.ops.Unary.{Unary}
 use Rattle.bv_expr.specs.declared.ops.Unary.TheVariants as of
 use Rattle.bv_expr.specs.declared.ops.Binary.{Binary}
 use Rattle.bv_expr.specs.declared.ops.Binary.TheVariants as on
-use Rattle.bv_expr.specs.Term.{Term, constant, variable, truth, truth_variable, unary, binary, choice, truth_choice}
-use Rattle.bv_expr.specs.Sorts.{vectors, where_equal, unary_sort, vector_sort, binary_sort, choice_sort, truth_choice_sort, sort_of}
+use Rattle.bv_expr.specs.Term.{Term, unary, binary, choice, truth_choice}
+use Rattle.bv_expr.specs.Sorts.{vectors, where_equal, unary_sort, binary_sort, choice_sort, truth_choice_sort, sort_of}
 use Rattle.bv_typing.specs.declared.kind.Kind.{Kind}
 use Rattle.bv_typing.specs.declared.kind.Kind.TheVariants as kind
 use Rattle.bv_typing.specs.declared.kind.Row.{Row}
 use Rattle.bv_typing.specs.declared.kind.Row.TheVariants as row
-use Rattle.bv_typing.specs.Rows.{sorted, resized, arithmetic_row, negation_row, prefix_row, equality, binary_of, infix_sort, is_arithmetic, is_comparison, beside_bare, both_bare, plain_row, amount_row, append_row, infix_row, branches_row, choice_row, ascribed_row}
-use Rattle.bv_typing.specs.Readings.{width_in, either, told_or, is_shift, right_width, infix_width, negated, is_turned, prefix_unary, shift_unary, sort_in, joined_by, joined, infix_term, choice_term}
+use Rattle.bv_typing.specs.Rows.{sorted, resized, arithmetic_row, negation_row, prefix_row, equality, binary_of, infix_sort, is_arithmetic, is_comparison, beside_bare, both_bare, plain_row, append_row, infix_row, branches_row, choice_row, ascribed_row}
+use Rattle.bv_typing.specs.Readings.{width_in, either, told_or, right_width, infix_width, prefix_unary, sort_in, joined_by, joined, infix_term, choice_term}
 use Rattle.bv_terms.specs.Sorting.{IsWidth, read, Readable, Sorts}
 use Rattle.bv_terms.proofs.Inverted.{sorted_parts}
 

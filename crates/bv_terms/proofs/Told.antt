@@ -10,7 +10,7 @@ use Rattle.bv_typing.specs.Stacks.{top, below}
 use Rattle.bv_typing.specs.Variables.{sort_at}
 use Rattle.bv_typing.specs.Readings.{Env, kind_of, method_at, told_or, right_width, infix_width, either, width_in, width_for, width_of_sort}
 use Rattle.bv_typing.specs.Notes.{nothing, tells, number_of, notes, all_notes}
-use Rattle.bv_terms.specs.Widths.{widths, all_widths, many, tell, told, found}
+use Rattle.bv_terms.specs.Widths.{widths, all_widths, many, told, found}
 
 same_told : {ps qs : List Piece} {ns ms : List Note} (ws : List ℕ) → ps ≡ qs → ns ≡ ms → told ps ns ws ≡ told qs ms ws
 same_told ws p n = λ i. told (p i) (n i) ws

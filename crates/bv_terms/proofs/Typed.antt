@@ -1,17 +1,16 @@
 -- The term of a typed tree has the sort of its kind.
 use Rattle.std.proofs.Common.{◌≡◌, ℕ, zero, suc, ◌+◌, ◌-◌, ◌≤◌, Bool, true, false, ◌||◌, List, [], ◌∷◌, Option, Some, None, refl, sym, ◌∙◌, ap, subst, arith}
-use Rattle.std.specs.Prelude.{◌==◌, if◌then◌else◌, option_map, option_and_then}
+use Rattle.std.specs.Prelude.{◌==◌, if◌then◌else◌}
 use Rattle.bv_value.specs.BitVector.{of_number}
 use Rattle.bv_grammar.specs.declared.words.Word.{Word}
 use Rattle.bv_grammar.specs.declared.words.Word.TheVariants as words
 use Rattle.bv_expr.specs.declared.ops.Sort.{Sort}
 use Rattle.bv_expr.specs.declared.ops.Sort.TheVariants.{Truth, Vector}
-use Rattle.bv_expr.specs.declared.ops.Unary.{Unary}
 use Rattle.bv_expr.specs.declared.ops.Unary.TheVariants as of
 use Rattle.bv_expr.specs.declared.ops.Binary.{Binary}
 use Rattle.bv_expr.specs.declared.ops.Binary.TheVariants as on
-use Rattle.bv_expr.specs.Term.{Term, constant, variable, truth, truth_variable, unary, binary, choice, truth_choice}
-use Rattle.bv_expr.specs.Sorts.{vectors, unary_sort, binary_sort, sort_of}
+use Rattle.bv_expr.specs.Term.{Term, constant, unary}
+use Rattle.bv_expr.specs.Sorts.{vectors, binary_sort, sort_of}
 use Rattle.bv_trees.specs.declared.pieces.Sort.{Sort as Written}
 use Rattle.bv_trees.specs.declared.pieces.Sort.TheVariants as written
 use Rattle.bv_trees.specs.Trees.{Tree, Trees, name, numeral, literal, prefix, infix_, method, ascribed, no_more, and}
@@ -21,18 +20,17 @@ use Rattle.bv_typing.specs.declared.item.Item.{Item}
 use Rattle.bv_typing.specs.declared.item.Item.TheVariants.{Number, Made}
 use Rattle.bv_typing.specs.declared.kind.Kind.{Kind}
 use Rattle.bv_typing.specs.declared.kind.Kind.TheVariants as kind
-use Rattle.bv_typing.specs.declared.kind.Row.{Row}
 use Rattle.bv_typing.specs.declared.kind.Row.TheVariants as row
 use Rattle.bv_typing.specs.declared.method.Method.{Method}
 use Rattle.bv_typing.specs.declared.method.Method.TheVariants as by_method
 use Rattle.bv_typing.specs.declared.method.Numbered.{Numbered}
 use Rattle.bv_typing.specs.declared.method.Numbered.TheVariants as numbered
 use Rattle.bv_typing.specs.Source.{Source, number_at}
-use Rattle.bv_typing.specs.Rows.{sorted, resized, as_term, negation_row, arithmetic_row, prefix_row, binary_of, infix_sort, is_arithmetic, is_comparison, beside_bare, both_bare, plain_row, amount_row, append_row, infix_row, branches_row, choice_row, ascribed_row, argument_row, numbered_row, arguments_row, method_row}
+use Rattle.bv_typing.specs.Rows.{sorted, resized, negation_row, arithmetic_row, prefix_row, infix_sort, is_arithmetic, is_comparison, beside_bare, both_bare, plain_row, amount_row, append_row, infix_row, branches_row, choice_row, argument_row, numbered_row, arguments_row, method_row}
 use Rattle.bv_typing.specs.Variables.{sort_at}
-use Rattle.bv_typing.specs.Readings.{Env, variable_at, method_at, name_row, kind_in, typed, within, ascribed_to, kind_of, kinds, width_in, width_for, width_of_sort, told_or, right_width, infix_width, either, variable_term, constant_term, numbered_unary, method_term, numeral_item, item_of, term, items, item}
+use Rattle.bv_typing.specs.Readings.{Env, variable_at, method_at, name_row, kind_in, ascribed_to, kind_of, kinds, width_for, width_of_sort, told_or, variable_term, constant_term, numbered_unary, method_term, numeral_item, term, items, item}
 use Rattle.bv_terms.proofs.Within.{Within, vectors_within, vector_within}
-use Rattle.bv_terms.proofs.Inverted.{kind_row, One, one_part, Two, two_parts, Three, three_parts, ascribed_part, kinds_parts, sorted_parts}
+use Rattle.bv_terms.proofs.Inverted.{kind_row, one_part, two_parts, three_parts, ascribed_part, kinds_parts, sorted_parts}
 use Rattle.bv_terms.specs.Sorting.{IsWidth, read, Readable, Sorts, Bounded}
 use Rattle.bv_terms.proofs.Joining.{HasWidth, vectors_is, resized_parts, unary_of, binary_of_sorts, prefix_sorts, infix_sorts, choice_sorts, ascribed_sorts, ascribed_truth}
 

@@ -4,12 +4,12 @@ use Rattle.bv_value.specs.BitVector.{of_number}
 use Rattle.bv_grammar.specs.declared.words.Word.{Word}
 use Rattle.bv_grammar.specs.declared.words.Word.TheVariants as words
 use Rattle.bv_expr.specs.declared.ops.Sort.{Sort}
-use Rattle.bv_expr.specs.declared.ops.Sort.TheVariants.{Truth, Vector}
+use Rattle.bv_expr.specs.declared.ops.Sort.TheVariants.{Truth}
 use Rattle.bv_expr.specs.declared.ops.Unary.{Unary}
 use Rattle.bv_expr.specs.declared.ops.Unary.TheVariants as of
 use Rattle.bv_expr.specs.declared.ops.Binary.{Binary}
 use Rattle.bv_expr.specs.declared.ops.Binary.TheVariants as on
-use Rattle.bv_expr.specs.Term.{Term, constant, variable, truth_variable, unary, binary, choice, truth_choice, depth}
+use Rattle.bv_expr.specs.Term.{Term, constant, unary, binary, choice, truth_choice, depth}
 use Rattle.bv_expr.specs.Sorts.{sort_of}
 use Rattle.bv_trees.specs.declared.pieces.Piece.{Piece}
 use Rattle.bv_trees.specs.declared.pieces.Piece.TheVariants as piece
@@ -61,6 +61,10 @@ is_negated _ = false
 abbrev pub negated_item : Word → Option Item → Option Item
 negated_item o x = if is_negated o then option_and_then (unary_item of.TNot) x else x
 
+-- with its parts in the other order, where the operator is `>` or `≥`
+abbrev pub turned : Word → Binary → Term → Term → Term
+turned o op x y = if is_turned o then binary op y x else binary op x y
+
 abbrev pub joined_item : Word → Option Binary → Term → Term → Option Item
 joined_item o None x y = None
 joined_item o (Some op) x y = negated_item o (checked (if is_turned o then binary op y x else binary op x y))
@@ -91,6 +95,16 @@ abbrev pub between_item : Item → Item → Item → Option Item
 between_item (Made x) (Number high) (Number low) = checked (unary (of.Extract low (high - low + 1)) x)
 between_item _ _ _ = None
 
+-- An operator whose number of bits, where it keeps one, is at most 128. (Another one fits no term.)
+abbrev pub is_narrow : Unary → Bool
+is_narrow (of.Extract start w) = nat_le w 128
+is_narrow (of.SetWidth w) = nat_le w 128
+is_narrow (of.SignExtend w) = nat_le w 128
+is_narrow _ = true
+
+abbrev pub narrow : Unary → Option Unary
+narrow op = if is_narrow op then Some op else None
+
 -- ---- with a stack
 
 abbrev pub term_in : Item → Option Term
@@ -108,6 +122,15 @@ popped_term (x ∷ st) = (term_in x, st)
 abbrev pub popped_number : List Item → Option ℕ × List Item
 popped_number [] = (None, [])
 popped_number (x ∷ st) = (number_in x, st)
+
+-- the two or three topmost items, the lowest one first, and what is below them
+abbrev pub top_two : List Item → Option (List Item × Item × Item)
+top_two (y ∷ x ∷ st) = Some (st, x, y)
+top_two _ = None
+
+abbrev pub top_three : List Item → Option (List Item × Item × Item × Item)
+top_three (z ∷ y ∷ x ∷ st) = Some (st, x, y, z)
+top_three _ = None
 
 abbrev pub put : Option Item → List Item → Option (List Item)
 put None st = None

@@ -1,3 +1,5 @@
 pub mod Widths
 pub mod Building
 pub mod Sorting
+pub mod Entries
+pub mod Goals

@@ -1,7 +1,7 @@
 -- At which sort a kind is read, and the sorts of terms.
-use Rattle.std.specs.Prelude.{◌≡◌, ℕ, ◌≤◌, Option, Some}
+use Rattle.std.specs.Prelude.{◌≡◌, ℕ, ◌≤◌, Some}
 use Rattle.bv_expr.specs.declared.ops.Sort.{Sort}
-use Rattle.bv_expr.specs.declared.ops.Sort.TheVariants.{Truth, Vector}
+use Rattle.bv_expr.specs.declared.ops.Sort.TheVariants.{Vector}
 use Rattle.bv_expr.specs.Term.{Term}
 use Rattle.bv_expr.specs.Sorts.{sort_of}
 use Rattle.bv_typing.specs.declared.kind.Kind.{Kind}

@@ -1,5 +1,5 @@
 -- At which width each piece of a tree is read.
-use Rattle.std.specs.Prelude.{ℕ, zero, suc, List, [], ◌∷◌, ◌++◌, Option}
+use Rattle.std.specs.Prelude.{ℕ, zero, suc, List, [], ◌∷◌, ◌++◌}
 use Rattle.bv_trees.specs.declared.pieces.Piece.{Piece}
 use Rattle.bv_trees.specs.declared.pieces.Piece.TheVariants as piece
 use Rattle.bv_trees.specs.Trees.{Tree, Trees, name, numeral, literal, prefix, infix_, method, ascribed, no_more, and}

@@ -1,5 +1,5 @@
--- The faults of a file, goal by goal.
-use Rattle.std.proofs.Common.{◌≡◌, ℕ, zero, suc, ◌+◌, ◌-◌, ◌<◌, List, [], ◌∷◌, ◌++◌, length, take, drop, Option, None, refl, sym, ap, arith, ◌∙◌, append_assoc, append-nil, length-drop, Bool, true, false}
+-- The goals of a file one by one: where each ends, what it binds, what its pieces note, and its faults.
+use Rattle.std.proofs.Common.{◌≡◌, ℕ, zero, suc, ◌+◌, ◌-◌, ◌<◌, List, [], ◌∷◌, ◌++◌, length, take, drop, Option, refl, sym, ap, arith, ◌∙◌, append_assoc, append-nil, length-append, Bool, true, false}
 use Rattle.std.specs.Prelude.{map, flat_map, if◌then◌else◌}
 use Rattle.bv_expr.specs.declared.ops.Sort.{Sort}
 use Rattle.bv_trees.specs.declared.pieces.Piece.{Piece}
@@ -12,13 +12,14 @@ use Rattle.bv_typing.specs.declared.variables.Binding.{Binding}
 use Rattle.bv_typing.specs.Source.{Source}
 use Rattle.bv_typing.specs.Variables.{bounds, all_bounds, named, placed, piece_bindings, sort_at}
 use Rattle.bv_typing.specs.Readings.{Env}
-use Rattle.bv_typing.specs.Goals.{hypotheses, terms_of, env_of, misfits, truth_misfits, bound_misfits, goal_misfits, file_misfits, least}
+use Rattle.bv_typing.specs.Goals.{hypotheses, terms_of, env_of, misfits, truth_misfits, bound_misfits, goal_misfits, least}
 use Rattle.bv_typing.specs.Earliest.{also}
-use Rattle.bv_typing.specs.Notes.{notes, binder_notes}
+use Rattle.bv_typing.specs.declared.note.Note.{Note}
+use Rattle.bv_typing.specs.Notes.{nothing, notes, binder_notes, goal_notes}
 use Rattle.bv_typing.specs.Judging as spec
-use Rattle.bv_typing.specs.Judging.{Judging, judge_all, start, least_of, env_at}
+use Rattle.bv_typing.specs.Judging.{Judging, judge, judge_all, start, least_of, env_at}
 use Rattle.bv_typing.specs.Faults.{is_end, goal_end, bindings_in, goal_misfit}
-use Rattle.bv_typing.proofs.Least.{also_none, least-append, least_behind}
+use Rattle.bv_typing.proofs.Least.{least-append}
 use Rattle.bv_typing.proofs.Judged.{part, terms_parts, found, found_twice, pieces_split, tree_judged, binders_judged, least_found}
 
 -- ---- the pieces of terms
@@ -148,6 +149,36 @@ own_end g qs =
     sums : (b c d k : ℕ) → d ≡ c + 1 → k ≡ b + d → b + (c + 1) ≡ k
     sums b c d k e f = omega (arith, e, f)
 
+take_own : (xs ys : List Piece) → take (length xs) (xs ++ ys) ≡ xs
+take_own [] ys = refl
+take_own (x ∷ xs) ys = ap (λ v. x ∷ v) (take_own xs ys)
+
+drop_own : (xs ys : List Piece) → drop (length xs) (xs ++ ys) ≡ ys
+drop_own [] ys = refl
+drop_own (x ∷ xs) ys = drop_own xs ys
+
+-- the first goal, and the others
+pub first_goal : (n : ℕ) (ps : List Piece) (g : Goal) (gs : List Goal) → n ≡ goal_end ps → ps ≡ goal_pieces (g ∷ gs) → take n ps ≡ goal_pieces (g ∷ [])
+first_goal n ps g gs e f =
+    let split = f ∙ goals_split g gs in
+    let end = e ∙ ap goal_end split ∙ own_end g (goal_pieces gs) in
+    (λ i. take (end i) (split i)) ∙ take_own (own_pieces g) (goal_pieces gs)
+
+pub other_goals : (n : ℕ) (ps : List Piece) (g : Goal) (gs : List Goal) → n ≡ goal_end ps → ps ≡ goal_pieces (g ∷ gs) → drop n ps ≡ goal_pieces gs
+other_goals n ps g gs e f =
+    let split = f ∙ goals_split g gs in
+    let end = e ∙ ap goal_end split ∙ own_end g (goal_pieces gs) in
+    (λ i. drop (end i) (split i)) ∙ drop_own (own_pieces g) (goal_pieces gs)
+
+-- where there are pieces, the first goal has some
+pub end_some : (ps : List Piece) → 0 < length ps → 0 < goal_end ps
+end_some [] h = absurd (omega (arith, h))
+end_some (p ∷ ps) h = some_by (is_end p) (goal_end ps)
+  where
+    some_by : (b : Bool) (n : ℕ) → 0 < (if b then 1 else suc n)
+    some_by true n = omega arith
+    some_by false n = omega arith
+
 named_placed : (s : Source) (t : Option Sort) (i n : ℕ) → map (named s) (placed t i n) ≡ bounds s t i n
 named_placed s t i zero = refl
 named_placed s t i (suc n) = ap (λ v. named s (record { at = i; sort = t }) ∷ v) (named_placed s t (i + 1) n)
@@ -167,13 +198,13 @@ binders_bind s (hypothesis x ∷ bs) qs =
     ∙ ap (map (named s)) (bindings_behind s (pieces x) (binder_pieces bs ++ qs) (tree_inner x))
     ∙ binders_bind s bs qs
 
-own_bind : (s : Source) (g : Goal) → map (named s) (bindings_in s (own_pieces g)) ≡ all_bounds s g.binders
+pub own_bind : (s : Source) (g : Goal) → map (named s) (bindings_in s (own_pieces g)) ≡ all_bounds s g.binders
 own_bind s g =
     binders_bind s g.binders (pieces g.conclusion ++ piece.Proof g.stored ∷ [])
     ∙ ap (λ v. all_bounds s g.binders ++ map (named s) v) (bindings_behind s (pieces g.conclusion) (piece.Proof g.stored ∷ []) (tree_inner g.conclusion))
     ∙ append-nil (all_bounds s g.binders)
 
--- ---- its faults
+-- ---- the walk over its pieces
 
 flat_last : {A B : Type 0} (f : A → List B) (xs : List A) (x : A) → flat_map f xs ++ f x ≡ flat_map f (xs ++ x ∷ [])
 flat_last f [] x = sym (append-nil (f x))
@@ -193,84 +224,67 @@ own_judged e g =
     ∙ pieces_split e (pieces c) (p ∷ []) _
     ∙ ap (judge_all e (p ∷ [])) (tree_judged e c _ ∙ found_twice (terms_parts e (hypotheses g.binders)) (part e c ∷ []) (binder_notes e g.binders) (notes e c) (flat_map (misfits e) (hypotheses g.binders)) (misfits e c) (spec.passed start))
 
+-- ---- what its pieces note
+
+one_more : (ns : List Note) (n : Note) → length (ns ++ n ∷ []) ≡ length ns + 1
+one_more ns n = omega (arith, length-append ns (n ∷ []))
+
+noted_by : (e : Env) (p : Piece) (s : Judging) → length (judge e p s).notes ≡ length s.notes + 1
+noted_by e (piece.Name i) s = one_more s.notes _
+noted_by e (piece.Numeral i) s = one_more s.notes _
+noted_by e (piece.Literal i w) s = one_more s.notes _
+noted_by e (piece.Constant c i) s = one_more s.notes _
+noted_by e (piece.Prefix o i) s = one_more s.notes _
+noted_by e (piece.Infix o i) s = one_more s.notes _
+noted_by e (piece.Choice i) s = one_more s.notes _
+noted_by e (piece.Call i) s = one_more s.notes _
+noted_by e (piece.Method i) s = one_more s.notes _
+noted_by e (piece.Ascribed i w) s = one_more s.notes _
+noted_by e (piece.Goal h i) s = one_more s.notes _
+noted_by e (piece.Variables i j w) s = one_more s.notes _
+noted_by e (piece.Proof t) s = one_more s.notes _
+
+-- a note for each piece
+all_noted : (e : Env) (ps : List Piece) (s : Judging) → length (judge_all e ps s).notes ≡ length s.notes + length ps
+all_noted e [] s = omega arith
+all_noted e (p ∷ ps) s = omega (arith, all_noted e ps (judge e p s), noted_by e p s)
+
+pub each_noted : (e : Env) (ps : List Piece) (ns : List Note) → ns ≡ (judge_all e ps start).notes → length ns ≡ length ps
+each_noted e ps ns h = omega (arith, ap length h, all_noted e ps start)
+
+own_notes : (s : Source) (g : Goal) → (judge_all (env_of s g) (own_pieces g) start).notes ≡ goal_notes s g
+own_notes s g =
+    let e = env_of s g in
+    ap (λ (j : Judging). j.notes) (own_judged e g)
+    ∙ ap (λ v. nothing ∷ v) (append_assoc (binder_notes e g.binders) (notes e g.conclusion) (nothing ∷ []))
+
+same_env : (s : Source) (g : Goal) → env_at s (bindings_in s (own_pieces g)) ≡ env_of s g
+same_env s g = λ i. record { source = s; bounds = own_bind s g i }
+
+pub notes_are : (s : Source) (ps : List Piece) (bs : List Binding) (ns : List Note) → bs ≡ bindings_in s ps → ns ≡ (judge_all (env_at s bs) ps start).notes → (g : Goal) → ps ≡ goal_pieces (g ∷ []) → ns ≡ goal_notes s g
+notes_are s ps bs ns b h g e =
+    h ∙ ap (λ (v : List Binding). (judge_all (env_at s v) ps start).notes) b
+    ∙ ap (λ (v : List Piece). (judge_all (env_at s (bindings_in s v)) v start).notes) e
+    ∙ ap (λ (v : Env). (judge_all v (own_pieces g) start).notes) (same_env s g)
+    ∙ own_notes s g
+
+-- ---- its faults
+
 own_least : (e : Env) (g : Goal) → least_of (judge_all e (own_pieces g) start) ≡ least (flat_map (misfits e) (terms_of g) ++ flat_map (truth_misfits e) (terms_of g))
 own_least e g =
     ap least_of (own_judged e g)
     ∙ (λ i. least_of (found (parts_last e (hypotheses g.binders) g.conclusion i) [] (flat_last (misfits e) (hypotheses g.binders) g.conclusion i) start))
     ∙ least_found e (terms_of g) [] (flat_map (misfits e) (terms_of g))
 
-pub own_misfit : (s : Source) (g : Goal) → goal_misfit s (own_pieces g) ≡ least (goal_misfits s g)
+own_misfit : (s : Source) (g : Goal) → goal_misfit s (own_pieces g) ≡ least (goal_misfits s g)
 own_misfit s g =
     (λ i. also (least (bound_misfits [] (own_bind s g i))) (least_of (judge_all (record { source = s; bounds = own_bind s g i }) (own_pieces g) start)))
     ∙ ap (also (least (bound_misfits [] (all_bounds s g.binders)))) (own_least (env_of s g) g)
     ∙ sym (least-append (bound_misfits [] (all_bounds s g.binders)) (flat_map (misfits (env_of s g)) (terms_of g) ++ flat_map (truth_misfits (env_of s g)) (terms_of g)))
 
--- ---- all goals
-
--- these goals are left, and what was found goes before their faults
-pub record Left (s : Source) (gs : List Goal) (rest : List Piece) (m : Option Misfit) : Type 0 where
-  pub others : List Goal
-  pub are : rest ≡ goal_pieces others
-  pub so_far : also m (least (file_misfits s others)) ≡ least (file_misfits s gs)
-
-pub record AllPassed (s : Source) (ps rest : List Piece) (m : Option Misfit) : Type 0 where
-  pub passed : (gs : List Goal) → ps ≡ goal_pieces gs → Left s gs rest m
-
-pub none_passed : (s : Source) (ps : List Piece) → AllPassed s ps ps None
-none_passed s ps = record { passed = λ gs e. record { others = gs; are = e; so_far = refl } }
-
-take_own : (xs ys : List Piece) → take (length xs) (xs ++ ys) ≡ xs
-take_own [] ys = refl
-take_own (x ∷ xs) ys = ap (λ v. x ∷ v) (take_own xs ys)
-
-drop_own : (xs ys : List Piece) → drop (length xs) (xs ++ ys) ≡ ys
-drop_own [] ys = refl
-drop_own (x ∷ xs) ys = drop_own xs ys
-
-next_left : (s : Source) (gs os : List Goal) (rest : List Piece) (m : Option Misfit) → 0 < length rest → rest ≡ goal_pieces os → also m (least (file_misfits s os)) ≡ least (file_misfits s gs)
-    → Left s gs (drop (goal_end rest) rest) (also m (goal_misfit s (take (goal_end rest) rest)))
-next_left s gs [] rest m h e f = absurd (omega (arith, h, ap length e))
-next_left s gs (o ∷ os) rest m h e f =
-    let split = e ∙ goals_split o os in
-    let end = ap goal_end split ∙ own_end o (goal_pieces os) in
-    let mine : take (goal_end rest) rest ≡ own_pieces o = (λ i. take (end i) (split i)) ∙ take_own (own_pieces o) (goal_pieces os) in
-    let others : drop (goal_end rest) rest ≡ goal_pieces os = (λ i. drop (end i) (split i)) ∙ drop_own (own_pieces o) (goal_pieces os) in
-    record {
-      others = os;
-      are = others;
-      so_far =
-          ap (λ v. also (also m v) (least (file_misfits s os))) (ap (goal_misfit s) mine ∙ own_misfit s o)
-          ∙ least_behind m (goal_misfits s o) (file_misfits s os) ∙ f;
-    }
-
-pub next_passed : (s : Source) (ps rest goal others : List Piece) (m n : Option Misfit) → 0 < length rest → goal ≡ take (goal_end rest) rest → others ≡ drop (goal_end rest) rest → n ≡ also m (goal_misfit s goal)
-    → AllPassed s ps rest m → AllPassed s ps others n
-next_passed s ps rest goal others m n h e f g a = record {
-  passed = λ gs k.
-      let l = a.passed gs k in
-      let there = next_left s gs l.others rest m h l.are l.so_far in
-      record { others = there.others; are = f ∙ there.are; so_far = ap (λ v. also v (least (file_misfits s there.others))) (g ∙ ap (λ v. also m (goal_misfit s v)) e) ∙ there.so_far };
-}
-
-all_left : (s : Source) (gs os : List Goal) (m : Option Misfit) → [] ≡ goal_pieces os → also m (least (file_misfits s os)) ≡ least (file_misfits s gs) → m ≡ least (file_misfits s gs)
-all_left s gs [] m e f = sym (also_none m) ∙ f
-all_left s gs (o ∷ os) m e f = cc
-
-no_pieces : (rest : List Piece) → length rest ≡ 0 → rest ≡ []
-no_pieces [] e = refl
-no_pieces (p ∷ ps) e = absurd (omega (arith, e))
-
-pub all_passed : (s : Source) (ps rest : List Piece) (m : Option Misfit) → length rest ≡ 0 → AllPassed s ps rest m → (gs : List Goal) → ps ≡ goal_pieces gs → m ≡ least (file_misfits s gs)
-all_passed s ps rest m h a gs e = let l = a.passed gs e in all_left s gs l.others m (sym (no_pieces rest h) ∙ l.are) l.so_far
-
--- each step takes pieces
-end_some : (ps : List Piece) → 0 < length ps → 0 < goal_end ps
-end_some [] h = absurd (omega (arith, h))
-end_some (p ∷ ps) h = some_by (is_end p) (goal_end ps)
-  where
-    some_by : (b : Bool) (n : ℕ) → 0 < (if b then 1 else suc n)
-    some_by true n = omega arith
-    some_by false n = omega arith
-
-pub shorter : (rest others : List Piece) (k : ℕ) → 0 < length rest → k ≡ goal_end rest → others ≡ drop k rest → length others < length rest
-shorter rest others k h e f = omega (arith, h, e, end_some rest h, ap length f, length-drop k rest)
+pub misfit_is : (s : Source) (ps : List Piece) (bs : List Binding) (a b m : Option Misfit) → bs ≡ bindings_in s ps → a ≡ least (bound_misfits [] (map (named s) bs)) → b ≡ least_of (judge_all (env_at s bs) ps start) → m ≡ also a b
+    → (g : Goal) → ps ≡ goal_pieces (g ∷ []) → m ≡ least (goal_misfits s g)
+misfit_is s ps bs a b m d h k l g e =
+    l ∙ (λ i. also (h i) (k i))
+    ∙ ap (λ (v : List Binding). also (least (bound_misfits [] (map (named s) v))) (least_of (judge_all (env_at s v) ps start))) d
+    ∙ ap (goal_misfit s) e ∙ own_misfit s g

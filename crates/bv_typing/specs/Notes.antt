@@ -1,10 +1,12 @@
 -- What each piece of a tree tells its parts, in the order of the pieces.
 use Rattle.std.specs.Prelude.{ℕ, suc, List, [], ◌∷◌, ◌++◌, Option, None}
-use Rattle.bv_trees.specs.Trees.{Tree, Trees, name, numeral, literal, prefix, infix_, method, ascribed, no_more, and, Binder, variables, hypothesis}
+use Rattle.bv_trees.specs.Trees.{Tree, Trees, name, numeral, literal, prefix, infix_, method, ascribed, no_more, and, Binder, variables, hypothesis, Goal}
 use Rattle.bv_trees.specs.Trees as trees
 use Rattle.bv_typing.specs.declared.note.Note.{Note}
+use Rattle.bv_typing.specs.Source.{Source}
 use Rattle.bv_typing.specs.Variables.{sort_at}
 use Rattle.bv_typing.specs.Readings.{Env, kind_of, method_at, infix_width, either, width_in, width_for, width_of_sort}
+use Rattle.bv_typing.specs.Goals.{env_of}
 
 abbrev pub nothing : Note
 nothing = record { width = None; arguments = 0 }
@@ -38,3 +40,7 @@ abbrev pub binder_notes : Env → List Binder → List Note
 binder_notes e [] = []
 binder_notes e (variables i j s ∷ bs) = nothing ∷ binder_notes e bs
 binder_notes e (hypothesis x ∷ bs) = notes e x ++ binder_notes e bs
+
+-- those of a goal: of its head, its binders, its conclusion and its proof
+abbrev pub goal_notes : Source → Goal → List Note
+goal_notes s g = nothing ∷ (binder_notes (env_of s g) g.binders ++ (notes (env_of s g) g.conclusion ++ nothing ∷ []))

@@ -32,9 +32,13 @@ number_of (Some t) = number_of_kind t.kind
 abbrev pub number_at : Source → ℕ → ℕ
 number_at s i = number_of (slice_get s.tokens i)
 
+abbrev pub quoted_in : TokenKind → List ℕ → List ℕ
+quoted_in kinds.Text inside = inside
+quoted_in _ inside = []
+
 abbrev pub quoted_of : List ℕ → Option Token → List ℕ
 quoted_of bytes None = []
-quoted_of bytes (Some t) = slice_range bytes (t.from + 1) (t.to - 1)
+quoted_of bytes (Some t) = quoted_in t.kind (slice_range bytes (t.from + 1) (t.to - 1))
 
 -- what stands between the quotes of the string there
 abbrev pub quoted_at : Source → ℕ → List ℕ

@@ -1,31 +1,40 @@
-//! The types of a file's goals.
+//! The goals of a file, whose pieces stand one behind the other.
 
-ghost use Rattle.std.specs.Prelude.{◌≡◌, All, IfOk, List, length};
-ghost use Rattle.bv_lex.specs.Cut.{IsSpanWithin};
+ghost use Rattle.std.specs.Prelude.{◌≡◌, ◌<◌, ◌≤◌, [], ◌∷◌, List, length, take, drop};
 ghost use Rattle.bv_trees.specs.Codes.{goal_pieces};
 ghost use Rattle.bv_trees.specs.Trees.{Goal};
-ghost use Rattle.bv_typing.specs.Goals.{file_misfits, least};
-ghost use Rattle.bv_typing.specs.Source.{source};
+ghost use Rattle.bv_typing.specs.Faults as spec;
 
-use crate::faults::file_misfit;
-use crate::misfit::Misfit;
-use crate::source::File;
-use bv_lex::Token;
 use bv_trees::Piece;
-use std::alloc::{AllocError, Global};
 
-/// The one fault of the types of a file with these bytes and tokens, whose goals have these pieces: the one at the least place.
-/// The error is want of memory alone. Takes time linear in the number of pieces, but for the look-up of names, which takes
-/// time linear in the number of a goal's variables, and nothing recurses.
-pub fn find_misfit(
-    alloc: Global,
-    bytes: &[u8],
-    tokens: &[Token],
-    pieces: &[Piece],
-) -> Result<Option<Misfit>, AllocError>
-    requires { All (IsSpanWithin (length bytes.now)) tokens.now }
-    ensures { IfOk result (λ m. (gs : List Goal) → pieces.now ≡ goal_pieces gs → m ≡ least (file_misfits (source bytes.now tokens.now) gs)) }
+/// The number of pieces up to the end of the first goal. Takes time linear in it.
+pub fn goal_end(pieces: &[Piece]) -> usize
+    ensures value { result ≡ spec.goal_end pieces.now }
+    ensures some { 0 < length pieces.now → 0 < result }
+    ensures within { result ≤ length pieces.now }
+    ensures first { (g : Goal) (gs : List Goal) → pieces.now ≡ goal_pieces (g ∷ gs) → take result pieces.now ≡ goal_pieces (g ∷ []) }
+    ensures others { (g : Goal) (gs : List Goal) → pieces.now ≡ goal_pieces (g ∷ gs) → drop result pieces.now ≡ goal_pieces gs }
 {
-    let file = File::new(bytes, tokens);
-    file_misfit(alloc, &file, pieces)
+    find_end(pieces)
+}
+
+fn find_end(pieces: &[Piece]) -> usize
+    ensures value { result ≡ spec.goal_end pieces.now }
+    ensures within { result ≤ length pieces.now }
+{
+    for (at, piece) in pieces.iter().enumerate() {
+        if is_end(*piece) {
+            return at + 1;
+        }
+    }
+    pieces.len()
+}
+
+fn is_end(piece: Piece) -> bool
+    ensures { result ≡ spec.is_end piece }
+{
+    match piece {
+        Piece::Proof(_) => true,
+        _ => false,
+    }
 }

@@ -1,6 +1,11 @@
 //! How the types of a goal's terms are judged: by one walk over its pieces, with a stack of the terms that are complete.
 
 ghost use Rattle.std.specs.Prelude.{◌≡◌, ◌∷◌, [], IfOk, length, None};
+ghost use Rattle.bv_trees.specs.Codes.{goal_pieces};
+ghost use Rattle.bv_trees.specs.Trees.{Goal};
+ghost use Rattle.bv_typing.specs.Faults.{bindings_in};
+ghost use Rattle.bv_typing.specs.Goals.{goal_misfits, least};
+ghost use Rattle.bv_typing.specs.Notes.{goal_notes};
 ghost use Rattle.bv_typing.specs.Readings.{name_row};
 ghost use Rattle.bv_typing.specs.Stacks as stacks;
 ghost use Rattle.bv_typing.specs.Verdicts.{none_gathered};
@@ -16,7 +21,7 @@ use crate::rows::sorted;
 use crate::sorts::vectors;
 use crate::source::File;
 use crate::telling::{either, infix_width, nothing, tells, width_for, width_in, width_of_sort};
-use crate::variables::{Binding, sort_at, variable_at};
+use crate::variables::{Binding, binding_misfit, bindings_of, sort_at, variable_at};
 use crate::verdicts::{
     Gathered, Typed, Verdict, ascribed_verdict, choice_verdict, gathered_before, infix_verdict,
     method_verdict, none_gathered, prefix_verdict, verdict_at,
@@ -119,13 +124,13 @@ impl Slots {
 
 /// What is found so far.
 #[derive(Drop, Debug)]
-pub(crate) struct Judge {
+pub(crate) struct Findings {
     slots: Slots,
     notes: Vec<Note>,
     least: Option<Misfit>,
 }
 
-impl Model for Judge {
+impl Model for Findings {
     ghost use Rattle.bv_typing.specs.Judging.{Judging};
 
     ghost Value = { Judging };
@@ -170,11 +175,11 @@ fn name_row(variable: Option<(usize, Option<Sort>)>) -> Row
     }
 }
 
-impl Judge {
-    fn new(alloc: Global) -> Judge
+impl Findings {
+    fn new(alloc: Global) -> Findings
         ensures { result ≡ spec.start }
     {
-        Judge {
+        Findings {
             slots: Slots::new(alloc),
             notes: Vec::new(alloc),
             least: None,
@@ -295,28 +300,55 @@ impl Judge {
     }
 }
 
-/// What the pieces of a goal are judged as: a note for each, and the least fault of its terms.
+/// What the pieces of a goal are judged as.
 #[derive(Drop, Debug)]
-pub(crate) struct Judgement {
+pub struct Judgement {
+    /// The names that are bound, in order.
+    pub bindings: Vec<Binding>,
+    /// What each piece tells its parts.
     pub notes: Vec<Note>,
+    /// The one fault of its types: the one at the least place.
     pub misfit: Option<Misfit>,
 }
 
-/// Judges the pieces of a goal, where these variables are bound. The error is want of memory alone. Takes time linear in the
-/// number of pieces, but for the look-up of names, and nothing recurses.
-pub(crate) fn judge_goal(
+/// Judges the pieces of a goal. The error is want of memory alone. Takes time linear in the number of pieces, but for the
+/// look-up of names, which takes time linear in the number of the goal's variables, and nothing recurses.
+pub fn judge(alloc: Global, file: &File<'_>, pieces: &[Piece]) -> Result<Judgement, AllocError>
+    ensures bindings { IfOk result (λ j. j.bindings.items ≡ bindings_in file.now pieces.now) }
+    ensures noted { IfOk result (λ j. length j.notes.items ≡ length pieces.now) }
+    ensures notes { IfOk result (λ j. (g : Goal) → pieces.now ≡ goal_pieces (g ∷ []) → j.notes.items ≡ goal_notes file.now g) }
+    ensures misfit { IfOk result (λ j. (g : Goal) → pieces.now ≡ goal_pieces (g ∷ []) → j.misfit ≡ least (goal_misfits file.now g)) }
+{
+    let bindings = bindings_of(alloc, file, pieces)?;
+    let terms = judge_terms(alloc, file, &bindings, pieces)?;
+    let misfit = earliest(binding_misfit(file, &bindings), terms.misfit);
+    Ok(Judgement {
+        bindings,
+        notes: terms.notes,
+        misfit,
+    })
+}
+
+/// What the terms of a goal are judged as: a note for each piece, and the least fault of the terms.
+#[derive(Drop, Debug)]
+struct Terms {
+    notes: Vec<Note>,
+    misfit: Option<Misfit>,
+}
+
+fn judge_terms(
     alloc: Global,
     file: &File<'_>,
     bindings: &[Binding],
     pieces: &[Piece],
-) -> Result<Judgement, AllocError>
-    ensures notes { IfOk result (λ j. j.notes.items ≡ (spec.judge_all (env_at file.now bindings.now) pieces.now spec.start).notes) }
-    ensures misfit { IfOk result (λ j. j.misfit ≡ spec.least_of (spec.judge_all (env_at file.now bindings.now) pieces.now spec.start)) }
+) -> Result<Terms, AllocError>
+    ensures notes { IfOk result (λ t. t.notes.items ≡ (spec.judge_all (env_at file.now bindings.now) pieces.now spec.start).notes) }
+    ensures misfit { IfOk result (λ t. t.misfit ≡ spec.least_of (spec.judge_all (env_at file.now bindings.now) pieces.now spec.start)) }
 {
-    let judge = walk(alloc, file, bindings, pieces)?;
-    let misfit = earliest(judge.least, truths_misfit(judge.slots));
-    Ok(Judgement {
-        notes: judge.notes,
+    let findings = walk(alloc, file, bindings, pieces)?;
+    let misfit = earliest(findings.least, truths_misfit(findings.slots));
+    Ok(Terms {
+        notes: findings.notes,
         misfit,
     })
 }
@@ -326,14 +358,14 @@ fn walk(
     file: &File<'_>,
     bindings: &[Binding],
     pieces: &[Piece],
-) -> Result<Judge, AllocError>
+) -> Result<Findings, AllocError>
     ensures { IfOk result (λ j. j ≡ spec.judge_all (env_at file.now bindings.now) pieces.now spec.start) }
 {
-    let mut judge = Judge::new(alloc);
+    let mut findings = Findings::new(alloc);
     for piece in pieces {
-        judge.take(file, bindings, *piece)?;
+        findings.take(file, bindings, *piece)?;
     }
-    Ok(judge)
+    Ok(findings)
 }
 
 /// The least of the faults of hypotheses and conclusions that are no truths.

@@ -1,7 +1,6 @@
 //! Types of theorem files: which terms fit together, at which width a bare numeral is read, and what each goal states.
 #![tactic(auto)]
 
-mod faults;
 mod goals;
 mod item;
 mod judging;
@@ -18,12 +17,15 @@ mod telling;
 mod variables;
 mod verdicts;
 
-pub use goals::find_misfit;
+pub use goals::goal_end;
 pub use item::Item;
+pub use judging::{Judgement, judge};
 pub use kind::{Kind, Row};
 pub use method::{Method, Numbered};
-pub use misfit::Misfit;
+pub use methods::method_of;
+pub use misfit::{Misfit, earliest};
+pub use names::{binders, goal_name, quoted_name};
 pub use note::Note;
-
-#[cfg(test)]
-mod tests;
+pub use rows::binary_of;
+pub use source::File;
+pub use variables::{Binding, bindings_of, variable_at};

@@ -57,7 +57,7 @@ const METHODS: [(&[u8], Method); 21] = [
 ];
 
 /// The method of a name. Takes constant time.
-pub(crate) fn method_of(name: &[u8]) -> Option<Method>
+pub fn method_of(name: &[u8]) -> Option<Method>
     ensures { result ≡ method_of name.now }
 {
     look_up(&METHODS, name)

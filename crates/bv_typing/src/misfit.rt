@@ -17,8 +17,8 @@ pub struct Misfit {
     pub kind: FaultKind,
 }
 
-/// The one at the lesser place of two, the first where they stand at one place.
-pub(crate) fn earliest(first: Option<Misfit>, second: Option<Misfit>) -> Option<Misfit>
+/// The one at the lesser place of two, the first where they stand at one place. Takes constant time.
+pub fn earliest(first: Option<Misfit>, second: Option<Misfit>) -> Option<Misfit>
     ensures { result ≡ also first second }
 {
     match (first, second) {

@@ -1,7 +1,7 @@
-//! What a goal is called, and its variables.
+//! What a goal is called, its variables, and the file of its certificate.
 
 ghost use Rattle.std.specs.Prelude.{◌≡◌, ◌≤◌, ◌-◌, ◌++◌, ℕ, IfOk, IsUtf8, map, string_bytes};
-ghost use Rattle.bv_typing.specs.Source.{text_at};
+ghost use Rattle.bv_typing.specs.Source.{quoted_at, text_at};
 ghost use Rattle.bv_typing.specs.Variables.{binders_of, named, sorted_binder};
 ghost use Rattle.bv_typing.specs.Goals.{name_between, path_text};
 
@@ -11,19 +11,27 @@ use bv_expr::{Name, Sort};
 use sqlite_items::Items;
 use std::alloc::{AllocError, Global};
 
-/// What the token at a place spells, as text.
-fn spelling<'a>(file: &File<'a>, at: usize) -> &'a str
-    requires { IsUtf8 (text_at file.now at) }
-    ensures { result.now ≡ text_at file.now at }
+/// Bytes as text.
+fn as_text(bytes: &[u8]) -> &str
+    requires { IsUtf8 bytes.now }
+    ensures { result.now ≡ bytes.now }
 {
-    match str::from_utf8(file.text_at(at)) {
+    match str::from_utf8(bytes) {
         Ok(text) => text,
         Err(_) => unreachable!(),
     }
 }
 
+/// What the token at a place spells, as text.
+fn spelling<'a>(file: &File<'a>, at: usize) -> &'a str
+    requires { IsUtf8 (text_at file.now at) }
+    ensures { result.now ≡ text_at file.now at }
+{
+    as_text(file.text_at(at))
+}
+
 /// The variables of a goal with their sorts. Takes time linear in the length of their names.
-pub(crate) fn binders(
+pub fn binders(
     alloc: Global,
     file: &File<'_>,
     bindings: &[Binding],
@@ -60,7 +68,7 @@ fn add(
 
 /// The name of a goal whose head word stands at a place, and whose name ends before another one: its path without spaces, or
 /// `example`. Takes time linear in its length.
-pub(crate) fn goal_name(
+pub fn goal_name(
     alloc: Global,
     file: &File<'_>,
     head: usize,
@@ -90,4 +98,13 @@ fn path_text(alloc: Global, file: &File<'_>, from: usize, to: usize) -> Result<S
         text.push_str(spelling(file, at))?;
     }
     Ok(text)
+}
+
+/// What stands between the quotes of the string at a place. Takes time linear in its length.
+pub fn quoted_name(alloc: Global, file: &File<'_>, at: usize) -> Result<Name, AllocError>
+    requires { IsUtf8 (quoted_at file.now at) }
+    ensures { IfOk result (λ n. n ≡ quoted_at file.now at) }
+{
+    let text = as_text(file.quoted_at(at));
+    Ok(Name::from_string(String::from_str(alloc, text)?))
 }

@@ -83,8 +83,8 @@ fn equality(sort: Sort) -> Binary
 }
 
 /// The node that an infix operator makes, where its first part has this sort. A negation round it, and the order of its parts,
-/// are left to the caller.
-pub(crate) fn binary_of(word: Word, sort: Sort) -> Option<Binary>
+/// are left to the caller. Takes constant time.
+pub fn binary_of(word: Word, sort: Sort) -> Option<Binary>
     ensures { result ≡ spec.binary_of word sort }
 {
     let op = match word {

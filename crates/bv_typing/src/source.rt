@@ -1,6 +1,6 @@
 //! What the tokens of a file spell.
 
-ghost use Rattle.std.specs.Prelude.{◌≡◌, All, length, slice_get};
+ghost use Rattle.std.specs.Prelude.{◌≡◌, ◌<◌, ◌≤◌, ◌+◌, ◌-◌, All, length, slice_get, slice_range};
 ghost use Rattle.bv_lex.specs.Cut.{IsSpanWithin};
 ghost use Rattle.bv_typing.specs.Source as spec;
 
@@ -9,7 +9,7 @@ use std::marker::Model;
 
 /// The bytes of a file, and its tokens.
 #[derive(Drop)]
-pub(crate) struct File<'a> {
+pub struct File<'a> {
     bytes: &'a [u8],
     tokens: &'a [Token],
 }
@@ -27,7 +27,8 @@ impl<'a> Model for File<'a> {
 }
 
 impl<'a> File<'a> {
-    pub(crate) fn new(bytes: &'a [u8], tokens: &'a [Token]) -> File<'a>
+    /// These bytes and their tokens. Takes constant time.
+    pub fn new(bytes: &'a [u8], tokens: &'a [Token]) -> File<'a>
         requires { All (IsSpanWithin (length bytes.now)) tokens.now }
         ensures { result ≡ record { bytes = bytes.now; tokens = tokens.now } }
     {
@@ -35,14 +36,21 @@ impl<'a> File<'a> {
     }
 
     /// What the token at a place spells.
-    pub(crate) fn text_at(&self, at: usize) -> &'a [u8]
+    pub fn text_at(&self, at: usize) -> &'a [u8]
         ensures { result.now ≡ spec.text_at self.now at }
     {
         text_of(self.bytes, self.tokens, at)
     }
 
+    /// What stands between the quotes of the string at a place.
+    pub fn quoted_at(&self, at: usize) -> &'a [u8]
+        ensures { result.now ≡ spec.quoted_at self.now at }
+    {
+        quoted_of(self.bytes, self.tokens, at)
+    }
+
     /// The number of the numeral at a place.
-    pub(crate) fn number_at(&self, at: usize) -> u128
+    pub fn number_at(&self, at: usize) -> u128
         ensures { result ≡ spec.number_at self.now at }
     {
         match self.tokens.get(at) {
@@ -62,6 +70,33 @@ fn text_of<'a>(bytes: &'a [u8], tokens: &[Token], at: usize) -> &'a [u8]
     } else {
         &[]
     }
+}
+
+fn quoted_of<'a>(bytes: &'a [u8], tokens: &[Token], at: usize) -> &'a [u8]
+    requires { All (IsSpanWithin (length bytes.now)) tokens.now }
+    ensures { result.now ≡ spec.quoted_of bytes.now (slice_get tokens.now at) }
+{
+    if at < tokens.len() {
+        let token = tokens[at];
+        match token.kind {
+            TokenKind::Text => inside(bytes, token.from, token.to),
+            _ => &[],
+        }
+    } else {
+        &[]
+    }
+}
+
+// What stands inside a span, apart from its first byte and its last one.
+fn inside(bytes: &[u8], from: usize, to: usize) -> &[u8]
+    requires some { from < to }
+    requires within { to ≤ length bytes.now }
+    ensures { result.now ≡ slice_range bytes.now (from + 1) (to - 1) }
+{
+    if to - from < 2 {
+        return &[];
+    }
+    &bytes[from + 1..to - 1]
 }
 
 fn number_of_kind(kind: TokenKind) -> u128

@@ -20,8 +20,10 @@ const MOST_VARIABLES: usize = 64;
 /// A name that is bound: the place where it stands, and the sort that is written, which is none where its width is 0 or above
 /// 128.
 #[derive(Clone, Copy, Debug, PartialEq, Eq)]
-pub(crate) struct Binding {
+pub struct Binding {
+    /// The place of the name: how many tokens stand before it.
     pub at: usize,
+    /// The sort that is written behind it.
     pub sort: Option<Sort>,
 }
 
@@ -36,7 +38,7 @@ pub(crate) fn sort_at(file: &File<'_>, sort: Written) -> Option<Sort>
 }
 
 /// The names that pieces bind, in order. The error is want of memory alone. Takes linear time.
-pub(crate) fn bindings_of(
+pub fn bindings_of(
     alloc: Global,
     file: &File<'_>,
     pieces: &[Piece],
@@ -77,7 +79,7 @@ fn place(
 
 /// The variable of a name that stands at a place, with its sort. `_` names none, though it may be bound. Takes time linear in
 /// the number of variables.
-pub(crate) fn variable_at(
+pub fn variable_at(
     file: &File<'_>,
     bindings: &[Binding],
     at: usize,

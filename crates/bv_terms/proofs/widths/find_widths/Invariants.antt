@@ -1,4 +1,4 @@
-use Rattle.std.proofs.Common.{ℕ, ◌≡◌, ◌≤◌, length, drop, []}
+use Rattle.std.proofs.Common.{◌≡◌, ◌≤◌, length, drop, []}
 use Rattle.bv_terms.specs.Widths.{told, found}
 use Rattle.bv_terms.proofs.widths.find_widths.Given as goal
 
