@@ -1,2 +1,2 @@
 mod Unique
-mod Least
+pub mod Few

@@ -1,6 +1,6 @@
 -- Files have one answer, by the laws of the steps that lead to it.
 use Rattle.std.proofs.Common.{◌≡◌, refl, sym, ap, subst, ◌∙◌, ℕ, List, [], Option, Some, None}
-use Rattle.std.specs.Prelude.{slice_get}
+use Rattle.std.specs.Prelude.{slice_get, map}
 use Rattle.bv_lex.specs.declared.token.Token.{Token}
 use Rattle.bv_lex.specs.declared.fault.Fault.{Fault}
 use Rattle.bv_lex.specs.declared.fault.What.{What}
@@ -14,13 +14,14 @@ use Rattle.bv_trees.specs.Trees.{Goal}
 use Rattle.bv_trees.specs.Files.{AreGoals}
 use Rattle.bv_trees.specs.Laws as trees
 use Rattle.bv_limits.specs.declared.plain.Met.{Met}
-use Rattle.bv_limits.specs.Limits.{IsCountedLimit}
+use Rattle.bv_limits.specs.Limits.{IsLimit}
 use Rattle.bv_limits.specs.Files.{IsLeast, IsMetIn}
 use Rattle.bv_limits.proofs.Sooner.{one_least}
 use Rattle.bv_typing.specs.declared.misfit.Misfit.{Misfit}
 use Rattle.bv_typing.specs.Source.{source}
-use Rattle.bv_typing.specs.Goals.{file_misfits, least}
-use Rattle.bv_parse.specs.Reads.{terminals_of, place_of, Outlines, IsWithinLimits, IsSound, limit_at, IsFaultOf, of_tokens, of_limits, of_counts, of_syntax, of_types}
+use Rattle.bv_expr.specs.Statement.{Statement}
+use Rattle.bv_typing.specs.Goals.{file_misfits, least, statement}
+use Rattle.bv_parse.specs.Reads.{terminals_of, place_of, Outlines, IsWithinLimits, limit_at, IsFaultOf, of_tokens, of_limits, of_limits_before, of_syntax, of_types}
 use Rattle.bv_parse.specs.Laws as laws
 
 -- the laws of the steps
@@ -60,21 +61,25 @@ limit_of_none p m n f = n m.what m.at f.0
 abbrev met : (bytes : List ℕ) (ts : List Token) (gs : List Goal) → What → ℕ → Type 0
 met bytes ts gs = IsMetIn ts (terminals_of bytes ts) gs
 
-abbrev counted : (bytes : List ℕ) (ts : List Token) (end : ℕ) → What → ℕ → Type 0
-counted bytes ts end = IsCountedLimit ts (terminals_of bytes ts) end
+abbrev met_before : (bytes : List ℕ) (ts : List Token) (end : ℕ) → What → ℕ → Type 0
+met_before bytes ts end = IsLimit ts (terminals_of bytes ts) end
 
 -- what is said of one outline is said of the other
 of_other : (s : Steps) (bytes : List ℕ) (ts us : List Token) (gs hs : List Goal) (p : List Token → List Goal → Type 0) → Outlines bytes ts gs → Outlines bytes us hs → p ts gs → p us hs
 of_other s bytes ts us gs hs p a b h = subst (λ xs. p xs hs) (same_tokens s bytes ts us a.cut b.cut) (subst (λ ys. p ts ys) (same_trees s bytes ts us gs hs a b) h)
 
-pub not_both : (s : Steps) (bytes : List ℕ) (f : Fault) → laws.NotBoth bytes f
-not_both s bytes f a (of_tokens t) = no_token_fault s bytes a.tokens f a.outlines.cut t
-not_both s bytes f a (of_limits {tokens} {gs} {m} o l) =
+pub one_reading : (s : Steps) (bytes : List ℕ) (xs ys : List Statement) → laws.OneReading bytes xs ys
+one_reading s bytes xs ys a b =
+    a.states.are ∙ of_other s bytes a.tokens b.tokens a.trees b.trees (λ us hs. map (statement (source bytes a.tokens)) a.trees ≡ map (statement (source bytes us)) hs) a.outlines b.outlines refl ∙ sym b.states.are
+
+pub not_both : (s : Steps) (bytes : List ℕ) (xs : List Statement) (f : Fault) → laws.NotBoth bytes xs f
+not_both s bytes xs f a (of_tokens t) = no_token_fault s bytes a.tokens f a.outlines.cut t
+not_both s bytes xs f a (of_limits {tokens} {gs} {m} o l) =
     limit_of_none (met bytes tokens gs) m (of_other s bytes a.tokens tokens a.trees gs (λ us ys. IsWithinLimits bytes us ys) a.outlines o a.within) l
-not_both s bytes f a (of_counts {tokens} {end} c e l) = no_syntax s bytes a.tokens tokens a.trees end a.outlines c e
-not_both s bytes f a (of_syntax {tokens} {end} c e l) = no_syntax s bytes a.tokens tokens a.trees end a.outlines c e
-not_both s bytes f a (of_types {tokens} {gs} {m} o w l) =
-    least_none m (file_misfits (source bytes tokens) gs) (of_other s bytes a.tokens tokens a.trees gs (λ us ys. file_misfits (source bytes us) ys ≡ []) a.outlines o a.fit) l
+not_both s bytes xs f a (of_limits_before {tokens} {end} c e l) = no_syntax s bytes a.tokens tokens a.trees end a.outlines c e
+not_both s bytes xs f a (of_syntax {tokens} {end} c e l) = no_syntax s bytes a.tokens tokens a.trees end a.outlines c e
+not_both s bytes xs f a (of_types {tokens} {gs} {m} o w l) =
+    least_none m (file_misfits (source bytes tokens) gs) (of_other s bytes a.tokens tokens a.trees gs (λ us ys. file_misfits (source bytes us) ys ≡ []) a.outlines o a.states.fit) l
 
 abbrev short_fault : List ℕ → List Token → ℕ → Option Met → Fault
 short_fault bytes ts end None = record { kind = kind.Syntax; place = place_of bytes (slice_get ts end) }
@@ -90,14 +95,14 @@ WholeFault bytes ts gs None f = (m : Misfit) × (least (file_misfits (source byt
 -- a fault by how the file ends
 data Kind (bytes : List ℕ) (f : Fault) : Type 0 where
   in_tokens : IsTokenFault bytes f → Kind bytes f
-  in_short : (ts : List Token) (end : ℕ) → AreTokens bytes ts → IsSyntaxFault (terminals_of bytes ts) end → (o : Option Met) → IsLeast (counted bytes ts end) o
+  in_short : (ts : List Token) (end : ℕ) → AreTokens bytes ts → IsSyntaxFault (terminals_of bytes ts) end → (o : Option Met) → IsLeast (met_before bytes ts end) o
       → f ≡ short_fault bytes ts end o → Kind bytes f
   in_whole : (ts : List Token) (gs : List Goal) → Outlines bytes ts gs → (o : Option Met) → IsLeast (met bytes ts gs) o → WholeFault bytes ts gs o f → Kind bytes f
 
 kind_of : (bytes : List ℕ) (f : Fault) → IsFaultOf bytes f → Kind bytes f
 kind_of bytes f (of_tokens t) = in_tokens t
 kind_of bytes f (of_limits {tokens} {gs} {m} o l) = in_whole tokens gs o (Some m) l refl
-kind_of bytes f (of_counts {tokens} {end} {m} c e l) = in_short tokens end c e (Some m) l refl
+kind_of bytes f (of_limits_before {tokens} {end} {m} c e l) = in_short tokens end c e (Some m) l refl
 kind_of bytes f (of_syntax {tokens} {end} c e l) = in_short tokens end c e None l refl
 kind_of bytes f (of_types {tokens} {gs} {m} o w l) = in_whole tokens gs o None w (m, l, refl)
 
@@ -108,12 +113,12 @@ one_limit p (Some m) None f g = absurd (limit_of_none p m g f)
 one_limit p (Some m) (Some n) f g = ap Some (one_least p m n f g)
 
 both_short : (s : Steps) (bytes : List ℕ) (f g : Fault) (ts us : List Token) (end end' : ℕ) (o q : Option Met) → AreTokens bytes ts → AreTokens bytes us → IsSyntaxFault (terminals_of bytes ts) end
-    → IsSyntaxFault (terminals_of bytes us) end' → IsLeast (counted bytes ts end) o → IsLeast (counted bytes us end') q → f ≡ short_fault bytes ts end o → g ≡ short_fault bytes us end' q → f ≡ g
+    → IsSyntaxFault (terminals_of bytes us) end' → IsLeast (met_before bytes ts end) o → IsLeast (met_before bytes us end') q → f ≡ short_fault bytes ts end o → g ≡ short_fault bytes us end' q → f ≡ g
 both_short s bytes f g ts us end end' o q c d e e' l l' h h' =
     let tokens : ts ≡ us = same_tokens s bytes ts us c d in
     let ends : end ≡ end' = s.one_fault (terminals_of bytes us) end end' (subst (λ xs. IsSyntaxFault (terminals_of bytes xs) end) tokens e) e' in
-    let least : IsLeast (counted bytes us end') o = subst (λ n. IsLeast (counted bytes us n) o) ends (subst (λ xs. IsLeast (counted bytes xs end) o) tokens l) in
-    h ∙ ap (λ xs. short_fault bytes xs end o) tokens ∙ ap (λ n. short_fault bytes us n o) ends ∙ ap (short_fault bytes us end') (one_limit (counted bytes us end') o q least l') ∙ sym h'
+    let least : IsLeast (met_before bytes us end') o = subst (λ n. IsLeast (met_before bytes us n) o) ends (subst (λ xs. IsLeast (met_before bytes xs end) o) tokens l) in
+    h ∙ ap (λ xs. short_fault bytes xs end o) tokens ∙ ap (λ n. short_fault bytes us n o) ends ∙ ap (short_fault bytes us end') (one_limit (met_before bytes us end') o q least l') ∙ sym h'
 
 one_whole_fault : (bytes : List ℕ) (f g : Fault) (ts : List Token) (gs : List Goal) (o : Option Met) → WholeFault bytes ts gs o f → WholeFault bytes ts gs o g → f ≡ g
 one_whole_fault bytes f g ts gs (Some m) h k = h ∙ sym k

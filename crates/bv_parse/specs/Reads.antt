@@ -1,6 +1,6 @@
--- Which files are sound, and the one fault of a file that isn't. Tokens come first, then limits and the grammar, and types
+-- What a file reads as, and the one fault of a file that doesn't. Tokens come first, then limits and the grammar, and types
 -- last. A limit stands at a token that is reached, so before the first token that isn't.
-use Rattle.std.specs.Prelude.{◌≡◌, ℕ, List, [], Option, Some, None, slice_get, map}
+use Rattle.std.specs.Prelude.{◌≡◌, ℕ, List, Option, Some, None, slice_get, map}
 use Rattle.bvd_text.specs.declared.cursor.Place.{Place}
 use Rattle.bvd_text.specs.Places.{place_behind}
 use Rattle.bv_lex.specs.declared.token.Token.{Token}
@@ -13,11 +13,12 @@ use Rattle.bv_terminals.specs.Spellings.{terminal_of}
 use Rattle.bv_trees.specs.Trees.{Goal}
 use Rattle.bv_trees.specs.Files.{AreGoals}
 use Rattle.bv_limits.specs.declared.plain.Met.{Met}
-use Rattle.bv_limits.specs.Limits.{IsCountedLimit}
+use Rattle.bv_limits.specs.Limits.{IsLimit}
 use Rattle.bv_limits.specs.Files.{IsLeast, IsMetIn}
 use Rattle.bv_typing.specs.declared.misfit.Misfit.{Misfit}
 use Rattle.bv_typing.specs.Source.{source}
-use Rattle.bv_typing.specs.Goals.{file_misfits, least}
+use Rattle.bv_expr.specs.Statement.{Statement}
+use Rattle.bv_typing.specs.Goals.{file_misfits, least, States}
 
 -- the terminals of a file's tokens
 abbrev pub terminals_of : List ℕ → List Token → List Terminal
@@ -33,17 +34,21 @@ pub record Outlines (bytes : List ℕ) (tokens : List Token) (gs : List Goal) : 
   pub cut : AreTokens bytes tokens
   pub goals : AreGoals (terminals_of bytes tokens) gs
 
+-- it has goals
+abbrev pub HasGoals : List ℕ → List Token → Type 0
+HasGoals bytes tokens = (gs : List Goal) × Outlines bytes tokens gs
+
 -- no limit is met in it
 abbrev pub IsWithinLimits : List ℕ → List Token → List Goal → Type 0
 IsWithinLimits bytes tokens gs = IsLeast (IsMetIn tokens (terminals_of bytes tokens) gs) None
 
--- the file has goals, no limit is met in it, and all its types fit
-pub record IsSound (bytes : List ℕ) : Type 0 where
+-- the file has goals, no limit is met in it, all its types fit, and this is what its goals state
+pub record ReadsAs (bytes : List ℕ) (statements : List Statement) : Type 0 where
   pub tokens : List Token
   pub trees : List Goal
   pub outlines : Outlines bytes tokens trees
   pub within : IsWithinLimits bytes tokens trees
-  pub fit : file_misfits (source bytes tokens) trees ≡ []
+  pub states : States (source bytes tokens) trees statements
 
 abbrev pub limit_at : List ℕ → List Token → Met → Fault
 limit_at bytes tokens m = record { kind = kind.Limit m.what; place = place_of bytes (slice_get tokens m.at) }
@@ -55,11 +60,11 @@ pub data IsFaultOf (bytes : List ℕ) : Fault → Type 0 where
   -- a token meets a limit, where the file is whole, and where a token can't stand behind it
   of_limits : {tokens : List Token} {gs : List Goal} {m : Met} → Outlines bytes tokens gs → IsLeast (IsMetIn tokens (terminals_of bytes tokens) gs) (Some m)
       → IsFaultOf bytes (limit_at bytes tokens m)
-  of_counts : {tokens : List Token} {end : ℕ} {m : Met} → AreTokens bytes tokens → IsSyntaxFault (terminals_of bytes tokens) end
-      → IsLeast (IsCountedLimit tokens (terminals_of bytes tokens) end) (Some m) → IsFaultOf bytes (limit_at bytes tokens m)
+  of_limits_before : {tokens : List Token} {end : ℕ} {m : Met} → AreTokens bytes tokens → IsSyntaxFault (terminals_of bytes tokens) end
+      → IsLeast (IsLimit tokens (terminals_of bytes tokens) end) (Some m) → IsFaultOf bytes (limit_at bytes tokens m)
   -- a token can't stand where it stands, or the file ends too early
   of_syntax : {tokens : List Token} {end : ℕ} → AreTokens bytes tokens → IsSyntaxFault (terminals_of bytes tokens) end
-      → IsLeast (IsCountedLimit tokens (terminals_of bytes tokens) end) None
+      → IsLeast (IsLimit tokens (terminals_of bytes tokens) end) None
       → IsFaultOf bytes (record { kind = kind.Syntax; place = place_of bytes (slice_get tokens end) })
   -- a term doesn't fit, the first of all
   of_types : {tokens : List Token} {gs : List Goal} {m : Misfit} → Outlines bytes tokens gs → IsWithinLimits bytes tokens gs

@@ -1,11 +1,12 @@
-//! Theorem files, from their bytes to their one fault.
+//! Theorem files, from their bytes to their goals or their one fault.
 #![tactic(auto)]
 
 mod faults;
 mod laws;
+mod parsing;
 
-pub use faults::find_fault;
 pub use laws::one_answer;
+pub use parsing::parse;
 
 #[cfg(test)]
 mod tests;

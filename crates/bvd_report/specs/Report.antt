@@ -51,7 +51,6 @@ pub record Line : Type 0 where
 pub data Found : Type 0 where
   Absent : Found
   TooLong : Found
-  NotYet : Found
   Faulty : Fault → Found
   Goals : List Line → Found
 
@@ -177,7 +176,6 @@ path_line command path = codes "file " ++ path ++ codes "\n"
 abbrev pub file_lines : Command → Bool → ℕ → List ℕ → Found → List ℕ
 file_lines command quiet k path Found.Absent = codes "file " ++ path ++ codes ": absent\n"
 file_lines command quiet k path Found.TooLong = codes "file " ++ path ++ codes ": too long\n"
-file_lines command quiet k path Found.NotYet = codes "file " ++ path ++ codes ": not yet\n"
 file_lines command quiet k path (Found.Faulty fault) = fault_line path fault
 file_lines command quiet k path (Found.Goals lines) = if quiet then [] else path_line command path ++ goal_lines command k lines
 
@@ -259,7 +257,6 @@ goals_status (line ∷ rest) = max (told_status line.told) (goals_status rest)
 abbrev pub found_status : Found → ℕ
 found_status Found.Absent = 4
 found_status Found.TooLong = 4
-found_status Found.NotYet = 4
 found_status (Found.Faulty fault) = 4
 found_status (Found.Goals lines) = goals_status lines
 

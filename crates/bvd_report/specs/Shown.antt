@@ -10,7 +10,7 @@ use Rattle.bvd_report.specs.declared.told.Told.{Told}
 use Rattle.bvd_report.specs.declared.told.Told.TheVariants as told
 use Rattle.bvd_report.specs.declared.told.Line.{Line}
 use Rattle.bvd_report.specs.declared.told.Found.{Found}
-use Rattle.bvd_report.specs.declared.told.Found.TheVariants.{Absent, TooLong, NotYet, Faulty, Goals}
+use Rattle.bvd_report.specs.declared.told.Found.TheVariants.{Absent, TooLong, Faulty, Goals}
 use Rattle.bvd_report.specs.declared.told.Part.{Part}
 use Rattle.bvd_report.specs.declared.summary.Verdict.{Verdict}
 use Rattle.bvd_report.specs.declared.summary.Verdict.TheVariants as verdict
@@ -45,7 +45,6 @@ lines_shown lines = map line_shown lines
 abbrev pub found_shown : Found → spec.Found
 found_shown Absent = spec.Found.Absent
 found_shown TooLong = spec.Found.TooLong
-found_shown NotYet = spec.Found.NotYet
 found_shown (Faulty fault) = spec.Found.Faulty fault
 found_shown (Goals lines) = spec.Found.Goals (lines_shown lines.items)
 

@@ -6,7 +6,7 @@ use Rattle.lrat_replay.specs.declared.stop.ReplayStop.{ReplayStop}
 use Rattle.lrat_replay.specs.declared.stop.ReplayStop.TheVariants as stop
 use Rattle.bvd_report.specs.declared.told.Line.{Line}
 use Rattle.bvd_report.specs.declared.told.Found.{Found}
-use Rattle.bvd_report.specs.declared.told.Found.TheVariants.{Absent, TooLong, NotYet, Faulty, Goals}
+use Rattle.bvd_report.specs.declared.told.Found.TheVariants.{Absent, TooLong, Faulty, Goals}
 use Rattle.bvd_report.specs.declared.told.Part.{Part}
 use Rattle.bvd_report.specs.Report.{Told}
 use Rattle.bvd_report.specs.Report.Told.{False, Replayed}
@@ -32,7 +32,6 @@ IsLine line = IsTellable line.goal.now.binders (told_shown line.told)
 abbrev pub IsFound : Found → Type 0
 IsFound Absent = Unit {0}
 IsFound TooLong = Unit {0}
-IsFound NotYet = Unit {0}
 IsFound (Faulty fault) = ¬ (IsMemory fault.kind)
 IsFound (Goals lines) = All IsLine lines.items
 

@@ -56,7 +56,6 @@ fn push_file(
     match &part.found {
         Found::Absent => push_file_words(out, path, ": absent\n"),
         Found::TooLong => push_file_words(out, path, ": too long\n"),
-        Found::NotYet => push_file_words(out, path, ": not yet\n"),
         Found::Faulty(fault) => push_fault(out, path, fault),
         Found::Goals(goals) => {
             if quiet {

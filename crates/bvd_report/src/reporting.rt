@@ -29,7 +29,7 @@ fn push_report(
 ///
 /// `prove`, `alone` and `check` write a line `file PATH` before the goals of a file, a line for each goal and a last line
 /// with counts; where the request is quiet, the counts alone. `cnf` writes a comment and the clauses for each goal, and
-/// `show` the goal's canonical line. A file that is absent, too long, no theorem file or not yet read has its line
+/// `show` the goal's canonical line. A file that is absent, too long or no theorem file has its line
 /// always.
 ///
 /// Errors: want of memory alone. Cost: linear in the text; a text of clauses is copied once.

@@ -58,7 +58,7 @@ fn found_status(found: &Found<'_>) -> u8
     ensures { result ≡ found_status (found_shown found.now) }
 {
     match found {
-        Found::Absent | Found::TooLong | Found::NotYet | Found::Faulty(_) => 4,
+        Found::Absent | Found::TooLong | Found::Faulty(_) => 4,
         Found::Goals(goals) => goals_status(goals),
     }
 }
@@ -70,7 +70,7 @@ fn found_status(found: &Found<'_>) -> u8
 /// | 0 | a goal that is proved, shown, whose clauses are written, or whose certificate is accepted |
 /// | 1 | a goal that is false, or whose certificate is refused |
 /// | 3 | a goal whose steps are spent, that is too deep or too large, or that is cancelled |
-/// | 4 | a file that is absent, too long, no theorem file or not yet read, or a certificate that is absent |
+/// | 4 | a file that is absent, too long or no theorem file, or a certificate that is absent |
 /// | 5 | a goal for whose gates a shared table had no room |
 /// | 7 | a goal for which there was no memory |
 ///

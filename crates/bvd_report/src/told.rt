@@ -38,8 +38,6 @@ pub enum Found<'a> {
     Absent,
     /// It has more bytes than are read.
     TooLong,
-    /// It is a theorem file, in a form whose goals can't be read yet.
-    NotYet,
     /// It is no theorem file.
     Faulty(Fault),
     /// Its goals, in order.
@@ -59,6 +57,6 @@ pub fn goals_of<'a, 'b>(found: &'b Found<'a>) -> &'b [Line<'a>]
 {
     match found {
         Found::Goals(lines) => lines,
-        Found::Absent | Found::TooLong | Found::NotYet | Found::Faulty(_) => &[],
+        Found::Absent | Found::TooLong | Found::Faulty(_) => &[],
     }
 }

@@ -4,11 +4,10 @@ use Rattle.std.specs.Prelude.{All, Contains, Option, unwrap_or}
 use Rattle.bvd_host.specs.Files.{Files, file_at}
 use Rattle.bv_lex.specs.declared.fault.Fault.{Fault}
 use Rattle.bv_expr.specs.Statement.{Statement}
-use Rattle.bv_parse.specs.Laws.{OneFault, NotBoth}
-use Rattle.goal_files.specs.Files.{goals_in}
+use Rattle.bv_parse.specs.Laws.{OneFault, OneReading, NotBoth}
 use Rattle.bvd_words.specs.Requests.{Command, Prove, Alone, Check, Cnf, Show, Request}
 use Rattle.bvd_report.specs.Report.{Told, Proved, Line, Found, Part, goals_of, all_goals, certificates}
-use Rattle.bvd_top.specs.Stated.{Stated, Absent, TooLong, NotYet, Faulty, Goals, File, IsStatedBy, IsStatedIn, AreStated, IsSmall, goals_stated}
+use Rattle.bvd_top.specs.Stated.{Stated, Absent, TooLong, Faulty, Goals, File, IsStatedBy, IsStatedIn, AreStated, IsSmall, goals_stated}
 use Rattle.bvd_top.specs.Storing.{with_all}
 use Rattle.bvd_top.specs.Names.{numbered, certificate_of}
 use Rattle.bvd_top.specs.Answered.{IsAnswered}
@@ -23,39 +22,26 @@ use Rattle.bvd_top.proofs.Kept.{kept_is_accepted}
 
 -- ---- both runs read the same
 
--- a file has one fault at most, and a sound one has none
+-- a file reads as one list of goals at most, it has one fault at most, and one that reads as goals has none
 pub record OneAnswer : Type 0 where
   pub fault : (bytes : List ℕ) (f g : Fault) → OneFault bytes f g
-  pub not_both : (bytes : List ℕ) (f : Fault) → NotBoth bytes f
-
-none_or_some : (o : Option (List Statement)) (gs : List Statement) → o ≡ None → o ≡ Some gs → ⊥
-none_or_some o gs p q = cc
-
-same_some : (o : Option (List Statement)) (gs hs : List Statement) → o ≡ Some gs → o ≡ Some hs → gs ≡ hs
-same_some o gs hs p q = cc
+  pub reading : (bytes : List ℕ) (goals others : List Statement) → OneReading bytes goals others
+  pub not_both : (bytes : List ℕ) (goals : List Statement) (f : Fault) → NotBoth bytes goals f
 
 one_by : OneAnswer → (bytes : List ℕ) (s t : Stated) → IsStatedBy bytes s → IsStatedBy bytes t → s ≡ t
 one_by once bytes Absent t p q = absurd p
 one_by once bytes TooLong Absent p q = absurd q
 one_by once bytes TooLong TooLong p q = refl
-one_by once bytes TooLong NotYet p q = absurd (omega (arith, p, q.0))
 one_by once bytes TooLong (Faulty g) p q = absurd (omega (arith, p, q.0))
 one_by once bytes TooLong (Goals hs) p q = absurd (omega (arith, p, q.0))
-one_by once bytes NotYet Absent p q = absurd q
-one_by once bytes NotYet TooLong p q = absurd (omega (arith, q, p.0))
-one_by once bytes NotYet NotYet p q = refl
-one_by once bytes NotYet (Faulty g) p q = absurd (once.not_both bytes g p.2 q.2)
-one_by once bytes NotYet (Goals hs) p q = absurd (none_or_some (goals_in bytes) hs p.1 q.1)
 one_by once bytes (Faulty f) Absent p q = absurd q
 one_by once bytes (Faulty f) TooLong p q = absurd (omega (arith, q, p.0))
-one_by once bytes (Faulty f) NotYet p q = absurd (once.not_both bytes f q.2 p.2)
-one_by once bytes (Faulty f) (Faulty g) p q = ap Faulty (once.fault bytes f g p.2 q.2)
-one_by once bytes (Faulty f) (Goals hs) p q = absurd (none_or_some (goals_in bytes) hs p.1 q.1)
+one_by once bytes (Faulty f) (Faulty g) p q = ap Faulty (once.fault bytes f g p.1 q.1)
+one_by once bytes (Faulty f) (Goals hs) p q = absurd (once.not_both bytes hs f q.1 p.1)
 one_by once bytes (Goals gs) Absent p q = absurd q
 one_by once bytes (Goals gs) TooLong p q = absurd (omega (arith, q, p.0))
-one_by once bytes (Goals gs) NotYet p q = absurd (none_or_some (goals_in bytes) gs q.1 p.1)
-one_by once bytes (Goals gs) (Faulty g) p q = absurd (none_or_some (goals_in bytes) gs q.1 p.1)
-one_by once bytes (Goals gs) (Goals hs) p q = ap Goals (same_some (goals_in bytes) gs hs p.1 q.1)
+one_by once bytes (Goals gs) (Faulty g) p q = absurd (once.not_both bytes gs g p.1 q.1)
+one_by once bytes (Goals gs) (Goals hs) p q = ap Goals (once.reading bytes gs hs p.1 q.1)
 
 one_in : OneAnswer → (content : Option (List ℕ)) (s t : Stated) → IsStatedIn content s → IsStatedIn content t → s ≡ t
 one_in once None s t p q = p ∙ sym q
@@ -109,11 +95,9 @@ told_in : (request : Request) (files : Files) (missing : Type 0) (k : ℕ) (stat
     → AreTold request (Some files) missing k (goals_stated stated) (goals_of found)
 told_in request files missing k Absent found is = subst (λ f. AreTold request (Some files) missing k [] (goals_of f)) (sym is) tt
 told_in request files missing k TooLong found is = subst (λ f. AreTold request (Some files) missing k [] (goals_of f)) (sym is) tt
-told_in request files missing k NotYet found is = subst (λ f. AreTold request (Some files) missing k [] (goals_of f)) (sym is) tt
 told_in request files missing k (Faulty fault) found is = subst (λ f. AreTold request (Some files) missing k [] (goals_of f)) (sym is) tt
 told_in request files missing k (Goals goals) Found.Absent is = absurd is
 told_in request files missing k (Goals goals) Found.TooLong is = absurd is
-told_in request files missing k (Goals goals) Found.NotYet is = absurd is
 told_in request files missing k (Goals goals) (Found.Faulty fault) is = absurd is
 told_in request files missing k (Goals goals) (Found.Goals lines) is = is
 

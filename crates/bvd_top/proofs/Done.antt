@@ -9,7 +9,7 @@ use Rattle.bvd_words.specs.Requests.{Command, Prove, Alone, Check, Cnf, Show, Re
 use Rattle.bvd_report.specs.Report.{Told, Proved, False, Budget, Deep, Large, Full, Cancelled, OutOfMemory, Clauses, Replayed, AbsentCertificate, Nothing, Line, Found, Part, goals_of, report, certificates, status_of, found_status, goals_status, told_status}
 use Rattle.bvd_top.specs.Words.{usage}
 use Rattle.bvd_top.specs.Storing.{with_all}
-use Rattle.bvd_top.specs.Stated.{Stated, Absent, TooLong, NotYet, Faulty, Goals, File, AreStated}
+use Rattle.bvd_top.specs.Stated.{Stated, Absent, TooLong, Faulty, Goals, File, AreStated}
 use Rattle.bvd_top.specs.Told.{IsTold, IsLineOf, AreTold}
 use Rattle.bvd_top.specs.Parts.{IsFound, AreFound, ArePartsOf}
 use Rattle.bvd_top.proofs.Checks.{checked_told}
@@ -56,11 +56,9 @@ goals_told request files m n k (goal ∷ goals) (line ∷ lines) are = (line_tol
 file_told : (request : Request) (files : Files) (m n : Type 0) (k : ℕ) (s : Stated) (found : Found) → IsFound request (Some files) m k s found → IsFound request (Some files) n k s found
 file_told request files m n k Absent found is = is
 file_told request files m n k TooLong found is = is
-file_told request files m n k NotYet found is = is
 file_told request files m n k (Faulty fault) found is = is
 file_told request files m n k (Goals goals) Found.Absent is = is
 file_told request files m n k (Goals goals) Found.TooLong is = is
-file_told request files m n k (Goals goals) Found.NotYet is = is
 file_told request files m n k (Goals goals) (Found.Faulty fault) is = is
 file_told request files m n k (Goals goals) (Found.Goals lines) is = goals_told request files m n k goals lines is
 
@@ -141,7 +139,6 @@ goals_own (line ∷ lines) = both_own (told_status line.told) (goals_status line
 found_own : (found : Found) → IsOwn (found_status found)
 found_own Found.Absent = high 4 (omega arith) (omega arith)
 found_own Found.TooLong = high 4 (omega arith) (omega arith)
-found_own Found.NotYet = high 4 (omega arith) (omega arith)
 found_own (Found.Faulty fault) = high 4 (omega arith) (omega arith)
 found_own (Found.Goals lines) = goals_own lines
 

@@ -51,7 +51,6 @@ files_stated files missing (name ∷ names) (r ∷ reads) (file ∷ parsed) read
 pub by_small : (bytes : List ℕ) (s : Stated) → IsStatedBy bytes s → IsSmall s
 by_small bytes spec.Stated.Absent by = absurd by
 by_small bytes spec.Stated.TooLong by = omega arith
-by_small bytes spec.Stated.NotYet by = omega arith
 by_small bytes (spec.Stated.Faulty fault) by = omega arith
 by_small bytes (spec.Stated.Goals goals) by = by.2
 

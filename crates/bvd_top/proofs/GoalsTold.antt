@@ -6,7 +6,7 @@ use Rattle.bvd_host.specs.Causes.{Rose}
 use Rattle.bv_expr.specs.Statement.{Statement}
 use Rattle.bvd_words.specs.Requests.{Command, Prove, Alone, Check, Cnf, Show, Request}
 use Rattle.bvd_report.specs.Report.{Told, Line, Found, Part, goals_of, all_goals}
-use Rattle.bvd_top.specs.Stated.{Stated, Absent, TooLong, NotYet, Faulty, Goals, File, goals_stated}
+use Rattle.bvd_top.specs.Stated.{Stated, Absent, TooLong, Faulty, Goals, File, goals_stated}
 use Rattle.bvd_top.specs.Told.{IsTold, IsLineOf, AreTold}
 use Rattle.bvd_top.specs.Parts.{IsFound, AreFound}
 use Rattle.bvd_top.proofs.Checks.{checked_later}
@@ -67,11 +67,9 @@ told_next request files mid m0 m1 m2 k n goals after lines new goal line are sam
 found_later : (request : Request) (files : Option Files) (m n : Type 0) (k : ℕ) (s : Stated) (found : Found) → (m → n) → IsFound request files m k s found → IsFound request files n k s found
 found_later request files m n k Absent found f is = is
 found_later request files m n k TooLong found f is = is
-found_later request files m n k NotYet found f is = is
 found_later request files m n k (Faulty fault) found f is = is
 found_later request files m n k (Goals goals) Found.Absent f is = is
 found_later request files m n k (Goals goals) Found.TooLong f is = is
-found_later request files m n k (Goals goals) Found.NotYet f is = is
 found_later request files m n k (Goals goals) (Found.Faulty fault) f is = is
 found_later request files m n k (Goals goals) (Found.Goals lines) f is = all_later request files m n k goals lines f is
 
@@ -87,11 +85,9 @@ pub found_count : (request : Request) (files : Option Files) (missing : Type 0) 
     → length (goals_of found) ≡ length (goals_stated s)
 found_count request files missing k Absent found is = ap (λ f. length (goals_of f)) is
 found_count request files missing k TooLong found is = ap (λ f. length (goals_of f)) is
-found_count request files missing k NotYet found is = ap (λ f. length (goals_of f)) is
 found_count request files missing k (Faulty fault) found is = ap (λ f. length (goals_of f)) is
 found_count request files missing k (Goals goals) Found.Absent is = absurd is
 found_count request files missing k (Goals goals) Found.TooLong is = absurd is
-found_count request files missing k (Goals goals) Found.NotYet is = absurd is
 found_count request files missing k (Goals goals) (Found.Faulty fault) is = absurd is
 found_count request files missing k (Goals goals) (Found.Goals lines) is = lines_count request files missing k goals lines is
 

@@ -28,6 +28,5 @@ AreParsed (read ∷ reads) (file ∷ rest) = (file.path.now ≡ read.path.now) �
 abbrev pub IsOfFile : CodeStated → Type 0
 IsOfFile code.Absent = ⊤
 IsOfFile code.TooLong = ⊤
-IsOfFile code.NotYet = ⊤
 IsOfFile (code.Faulty fault) = ¬ (IsMemory fault.kind)
 IsOfFile (code.Goals goals) = ⊤

@@ -3,18 +3,16 @@ use Rattle.std.specs.Prelude.{◌≡◌, ℕ, ◌+◌, List, [], ◌∷◌, Opti
 use Rattle.bvd_host.specs.Files.{Files}
 use Rattle.bvd_words.specs.Requests.{Request}
 use Rattle.bvd_report.specs.Report.{Found, Part, goals_of}
-use Rattle.bvd_top.specs.Stated.{Stated, Absent, TooLong, NotYet, Faulty, Goals, File, AreStated}
+use Rattle.bvd_top.specs.Stated.{Stated, Absent, TooLong, Faulty, Goals, File, AreStated}
 use Rattle.bvd_top.specs.Told.{AreTold}
 
 -- what became of a file that states this, its goals being numbered from k on
 abbrev pub IsFound : Request → Option Files → Type 0 → ℕ → Stated → Found → Type 0
 IsFound request files missing k Absent found = found ≡ Found.Absent
 IsFound request files missing k TooLong found = found ≡ Found.TooLong
-IsFound request files missing k NotYet found = found ≡ Found.NotYet
 IsFound request files missing k (Faulty fault) found = found ≡ Found.Faulty fault
 IsFound request files missing k (Goals goals) Found.Absent = ⊥
 IsFound request files missing k (Goals goals) Found.TooLong = ⊥
-IsFound request files missing k (Goals goals) Found.NotYet = ⊥
 IsFound request files missing k (Goals goals) (Found.Faulty fault) = ⊥
 IsFound request files missing k (Goals goals) (Found.Goals lines) = AreTold request files missing k goals lines
 

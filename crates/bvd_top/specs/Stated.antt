@@ -3,14 +3,12 @@ use Rattle.std.specs.Prelude.{◌≡◌, ◌⊎◌, ◌<◌, ◌≤◌, ℕ, Lis
 use Rattle.bvd_host.specs.Files.{Files, file_at}
 use Rattle.bv_lex.specs.declared.fault.Fault.{Fault}
 use Rattle.bv_expr.specs.Statement.{Statement}
-use Rattle.bv_parse.specs.Reads.{IsSound, IsFaultOf}
-use Rattle.goal_files.specs.Files.{goals_in}
+use Rattle.bv_parse.specs.Reads.{ReadsAs, IsFaultOf}
 
--- what a file states: it isn't there, it is too long, it is sound but its goals can't be read yet, it has a fault, or its goals
+-- what a file states: it isn't there, it is too long, it has a fault, or its goals
 pub data Stated : Type 0 where
   Absent : Stated
   TooLong : Stated
-  NotYet : Stated
   Faulty : Fault → Stated
   Goals : List Statement → Stated
 
@@ -26,13 +24,12 @@ most_bytes = 4194304
 abbrev pub most_goals : ℕ
 most_goals = 1024
 
--- what bytes state; their goals are read where each stands on a line of its own
+-- what bytes state
 abbrev pub IsStatedBy : List ℕ → Stated → Type 0
 IsStatedBy bytes Absent = ⊥
 IsStatedBy bytes TooLong = most_bytes < length bytes
-IsStatedBy bytes NotYet = (length bytes ≤ most_bytes) × (goals_in bytes ≡ None) × IsSound bytes
-IsStatedBy bytes (Faulty fault) = (length bytes ≤ most_bytes) × (goals_in bytes ≡ None) × IsFaultOf bytes fault
-IsStatedBy bytes (Goals goals) = (length bytes ≤ most_bytes) × (goals_in bytes ≡ Some goals) × (length goals ≤ most_goals)
+IsStatedBy bytes (Faulty fault) = (length bytes ≤ most_bytes) × IsFaultOf bytes fault
+IsStatedBy bytes (Goals goals) = (length bytes ≤ most_bytes) × ReadsAs bytes goals × (length goals ≤ most_goals)
 
 -- what a file states that may be there
 abbrev pub IsStatedIn : Option (List ℕ) → Stated → Type 0
@@ -55,7 +52,6 @@ AreStated files missing (name ∷ names) (file ∷ rest) = (file.path ≡ name) 
 abbrev pub goals_stated : Stated → List Statement
 goals_stated Absent = []
 goals_stated TooLong = []
-goals_stated NotYet = []
 goals_stated (Faulty fault) = []
 goals_stated (Goals goals) = goals
 

@@ -118,7 +118,6 @@ fn found_of<'a, K: Keeper>(
     match stated {
         Stated::Absent => Ok(Found::Absent),
         Stated::TooLong => Ok(Found::TooLong),
-        Stated::NotYet => Ok(Found::NotYet),
         Stated::Faulty(fault) => Ok(Found::Faulty(*fault)),
         Stated::Goals(goals) => Ok(Found::Goals(answer_goals(
             alloc, keeper, request, first, goals,

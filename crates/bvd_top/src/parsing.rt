@@ -1,6 +1,5 @@
 //! What the files of a run state. All files are parsed before the first goal is answered; the goals stay where they are, and what is told of them borrows them.
-ghost use Rattle.std.specs.Prelude.{◌≡◌, ◌≤◌, All, None, length, IfOk};
-ghost use Rattle.goal_files.specs.Files.{goals_in};
+ghost use Rattle.std.specs.Prelude.{◌≡◌, ◌≤◌, All, length, IfOk};
 ghost use Rattle.bvd_top.specs.Reading.{IsWithin};
 ghost use Rattle.bvd_top.specs.Stated.{most_bytes, IsStatedBy};
 ghost use Rattle.bvd_top.specs.Stated as spec;
@@ -11,8 +10,7 @@ use crate::keeping::keep;
 use crate::reading::{FileRead, Read};
 use bv_expr::Goal;
 use bv_lex::{Fault, FaultKind};
-use bv_parse::find_fault;
-use goal_files::file::goals_in;
+use bv_parse::parse;
 use std::alloc::{AllocError, Global};
 
 /// What a file states.
@@ -20,7 +18,6 @@ use std::alloc::{AllocError, Global};
 pub enum Stated {
     Absent,
     TooLong,
-    NotYet,
     Faulty(Fault),
     Goals(Vec<Goal>),
 }
@@ -43,28 +40,15 @@ fn faulty(fault: Fault) -> Result<Stated, AllocError>
     }
 }
 
-/// What bytes state that aren't goals, one a line: their fault, if they have one.
-fn stated_by_others(alloc: Global, bytes: &[u8]) -> Result<Stated, AllocError>
-    requires size { length bytes.now ≤ most_bytes }
-    requires others { goals_in bytes.now ≡ None }
-    ensures stated { IfOk result (λ s. IsStatedBy bytes.now (stated_shown s)) }
-    ensures of_file { IfOk result IsOfFile }
-{
-    match find_fault(alloc, bytes) {
-        Ok(()) => Ok(Stated::NotYet),
-        Err(fault) => faulty(fault),
-    }
-}
-
-/// What bytes state.
+/// What bytes state: their goals, or their one fault.
 fn stated_by(alloc: Global, bytes: &[u8]) -> Result<Stated, AllocError>
     requires { length bytes.now ≤ most_bytes }
     ensures stated { IfOk result (λ s. IsStatedBy bytes.now (stated_shown s)) }
     ensures of_file { IfOk result IsOfFile }
 {
-    match goals_in(alloc, bytes)? {
-        Some(goals) => Ok(Stated::Goals(goals)),
-        None => stated_by_others(alloc, bytes),
+    match parse(alloc, bytes) {
+        Ok(goals) => Ok(Stated::Goals(goals)),
+        Err(fault) => faulty(fault),
     }
 }
 
@@ -81,8 +65,7 @@ fn stated_in(alloc: Global, content: &FileRead) -> Result<Stated, AllocError>
     }
 }
 
-/// What the files state that were read, in order. The goals of a file are read where each stands on a line of its own; of
-/// any other file its fault is told, or that its goals can't be read yet.
+/// What the files state that were read, in order: their goals, or their one fault.
 /// Errors: want of memory alone. Cost: that of parsing the files' bytes.
 pub fn parse_all<'a>(alloc: Global, reads: &[Read<'a>]) -> Result<Vec<File<'a>>, AllocError>
     requires { All (λ r. IsWithin most_bytes r.content) reads.now }

@@ -173,7 +173,7 @@ fn searches_tell_their_answers(rt: HostRuntime) {
 
 #[test]
 fn faults_clauses_and_goals_are_told(rt: HostRuntime) {
-    let rows: [Told<'_>; 6] = [
+    let rows: [Told<'_>; 8] = [
         (
             &PROVE,
             b"theorem",
@@ -189,8 +189,14 @@ fn faults_clauses_and_goals_are_told(rt: HostRuntime) {
         (
             &PROVE,
             b"theorem b (x : BitVec 8) : x \xe2\x89\xa4 x + 1 := by bv_decide",
-            4,
-            b"file a.lean: not yet\ngoals: 0 proved, 0 false, 0 other\n",
+            1,
+            b"file a.lean\n1. b: false x = 0xff#8\ngoals: 0 proved, 1 false, 0 other\n",
+        ),
+        (
+            &PROVE,
+            b"theorem m (x : BitVec 8) : x * 2 = x <<< 1 := by bv_decide",
+            0,
+            b"file a.lean\n1. m: proved goal-1.lrat\ngoals: 1 proved, 0 false, 0 other\n",
         ),
         (
             &["cnf", "a.lean"],
@@ -209,6 +215,12 @@ fn faults_clauses_and_goals_are_told(rt: HostRuntime) {
             EQUAL,
             0,
             b"theorem n (a : Bool) (b : Bool) : (a = b) := by bv_decide\n",
+        ),
+        (
+            &["show", "a.lean"],
+            b"theorem s (x : BitVec 8) (h : x > 3) : \xc2\xac x = 0 := by bv_decide",
+            0,
+            b"theorem s (x : BitVec 8) (h : (0x03#8 < x)) : (!(x = 0x00#8)) := by bv_decide\n",
         ),
     ];
     assert!(rt; all_tell(rt.alloc(), &rows).expect(&rt, "memory"));

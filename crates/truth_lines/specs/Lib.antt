@@ -1,3 +1,0 @@
-pub mod Readings
-pub mod Truths
-pub mod Fits
