@@ -5,3 +5,6 @@ pub mod Rows
 pub mod Falsifying
 pub mod Reading
 pub mod Normalised
+pub mod Scripting
+pub mod Following
+pub mod Example

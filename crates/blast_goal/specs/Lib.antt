@@ -2,3 +2,5 @@ pub mod Circuit
 pub mod Values
 pub mod Fitting
 pub mod Falsified
+pub mod Script
+pub mod Recorded
