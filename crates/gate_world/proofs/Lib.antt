@@ -1,0 +1,17 @@
+pub mod Standing
+pub mod Calling
+pub mod Counting
+pub mod Doing
+pub mod Keeping
+pub mod Running
+pub mod Bounding
+pub mod Turning
+pub mod Lowering
+pub mod Cones
+pub mod Coded
+pub mod Begun
+pub mod Told
+pub mod InHand
+pub mod Proper
+pub mod Scripted
+pub mod Going
