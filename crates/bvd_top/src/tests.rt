@@ -226,6 +226,80 @@ fn faults_clauses_and_goals_are_told(rt: HostRuntime) {
     assert!(rt; all_tell(rt.alloc(), &rows).expect(&rt, "memory"));
 }
 
+/// A file as users have it.
+const MASKS: &[u8] =
+    b"import Std.Tactic.BVDecide\nopen BitVec\n/- masks -/\ntheorem mask_le (x m : BitVec 32) : x &&& m \xe2\x89\xa4 x := by bv_decide\ntheorem swap_xor (a b : BitVec 16) (h : a \xe2\x89\xa0 b) : (a ^^^ b) != 0 := by bv_decide\ntheorem half_lt (x : BitVec 8) (h : 0 < x) : x >>> 1 < x := by\n  bv_decide -- one line\n";
+
+#[test]
+fn goals_on_vectors_are_told(rt: HostRuntime) {
+    let rows: [Told<'_>; 10] = [
+        (
+            &PROVE,
+            b"theorem z (x : BitVec 8) : x / 0 = 0 := by bv_decide\ntheorem r (x : BitVec 8) : x % 0 = x := by bv_decide",
+            0,
+            b"file a.lean\n1. z: proved goal-1.lrat\n2. r: proved goal-2.lrat\ngoals: 2 proved, 0 false, 0 other\n",
+        ),
+        (
+            &PROVE,
+            b"example : (128#8).sdiv 255#8 = 128#8 := by bv_decide example : (249#8).srem 3#8 = 255#8 := by bv_decide example : (249#8).smod 3#8 = 2#8 := by bv_decide",
+            0,
+            b"file a.lean\n1. example: proved goal-1.lrat\n2. example: proved goal-2.lrat\n3. example: proved goal-3.lrat\ngoals: 3 proved, 0 false, 0 other\n",
+        ),
+        (
+            &PROVE,
+            b"example : 300#8 = 44#8 := by bv_decide example : (0x81#8).rotateLeft 9 = 0x03#8 := by bv_decide example : (0x80#8).sshiftRight 200 = 0xff#8 := by bv_decide",
+            0,
+            b"file a.lean\n1. example: proved goal-1.lrat\n2. example: proved goal-2.lrat\n3. example: proved goal-3.lrat\ngoals: 3 proved, 0 false, 0 other\n",
+        ),
+        (
+            &PROVE,
+            b"theorem w (x : BitVec 0) : x = x := by bv_decide",
+            4,
+            b"file a.lean: limit width 1:23\ngoals: 0 proved, 0 false, 0 other\n",
+        ),
+        (
+            &PROVE,
+            b"theorem w (x : BitVec 128) : x = x := by bv_decide",
+            0,
+            b"file a.lean\n1. w: proved goal-1.lrat\ngoals: 1 proved, 0 false, 0 other\n",
+        ),
+        (
+            &PROVE,
+            b"theorem w (x : BitVec 65) : x ++ x = x ++ x := by bv_decide",
+            4,
+            b"file a.lean: limit width 1:31\ngoals: 0 proved, 0 false, 0 other\n",
+        ),
+        (
+            &PROVE,
+            b"theorem p (x y : BitVec 1) : x + y = x ^^^ y := by bv_decide",
+            0,
+            b"file a.lean\n1. p: proved goal-1.lrat\ngoals: 1 proved, 0 false, 0 other\n",
+        ),
+        (
+            &["alone", "a.lean"],
+            MASKS,
+            0,
+            b"file a.lean\n1. mask_le: proved goal-1.lrat\n2. swap_xor: proved goal-2.lrat\n3. half_lt: proved goal-3.lrat\ngoals: 3 proved, 0 false, 0 other\n",
+        ),
+        (
+            &PROVE,
+            b"theorem u (x y : BitVec 1) (h : x = 1) : x * y = 1 := by bv_decide",
+            1,
+            b"file a.lean\n1. u: false x = 0x1#1, y = 0x0#1\ngoals: 0 proved, 1 false, 0 other\n",
+        ),
+        (
+            &PROVE,
+            b"theorem v (x y : BitVec 2) (h : y = 3) : x <<< y = 0 := by bv_decide theorem d (x y : BitVec 2) (h : y = 0) : x / y = 0 := by bv_decide theorem q (x y : BitVec 2) : x / y \xe2\x89\xa4 x := by bv_decide",
+            0,
+            b"file a.lean\n1. v: proved goal-1.lrat\n2. d: proved goal-2.lrat\n3. q: proved goal-3.lrat\ngoals: 3 proved, 0 false, 0 other\n",
+        ),
+    ];
+    assert!(rt; all_tell(rt.alloc(), &rows).expect(&rt, "memory"));
+    let doubled = b"theorem m (x : BitVec 8) : x * 2 = x <<< 1 := by bv_decide";
+    let ran = run(rt.alloc(), &PROVE, Some(doubled), NOTHING_FAILS).expect(&rt, "memory");
+    assert!(rt; ran.first.is_some_and(|text| text.as_slice() == CERTIFICATE));
+}
+
 #[test]
 fn failing_devices_leave_what_was_done_before(rt: HostRuntime) {
     // Which call of a kind fails; the status; how many bytes are told, and how many of each certificate are there.
