@@ -4,11 +4,11 @@ use Rattle.std.specs.List.{list_any}
 use Rattle.std.proofs.lemmas.List.{take_more, drop_more}
 use Rattle.std.proofs.lemmas.List.Folds.{list_any-append}
 use Rattle.sat_form.specs.Literals.{Literal}
-use Rattle.sat_form.specs.Log.{Logged}
 use Rattle.sat_form.proofs.Numbers.{eq_not, eq_is, lt_is, is_lt}
 use Rattle.sat_form.proofs.Sets.{both, join, nat_is}
 use Rattle.lrat_trim.specs.Derivation.{LogLine, is_earlier, are_earlier, hints_earlier, logged_from}
 use Rattle.lrat_trim.specs.Marks.{mark_behind}
+use Rattle.lrat_trim.specs.Passing.{rest_from}
 
 set_here : (marks : List Bool) (place : ℕ) → place < length marks → get_or (set marks place true) place false ≡ true
 set_here [] place h = absurd (omega arith)
@@ -89,10 +89,6 @@ line_earlier id (k ∷ lines) zero l d all inside is =
 line_earlier id (k ∷ lines) (suc i) l d all inside is =
     let e : id + suc i ≡ id + 1 + i = omega arith in
     ap (λ n. are_earlier n l.hints) e ∙ line_earlier (id + 1) lines i l d (both (are_earlier id k.hints) (hints_earlier (id + 1) lines) all).1 (omega arith) is
-
--- the lines from a place on, with their ids
-abbrev pub rest_from : ℕ → List LogLine → ℕ → List Logged
-rest_from m lines at = logged_from (m + 1 + at) (drop at lines)
 
 pub rest_more : (m : ℕ) (lines : List LogLine) (at : ℕ) (l d : LogLine) → at < length lines → l ≡ get_or lines at d
     → rest_from m lines at ≡ record { id = m + 1 + at; lits = l.lits; hints = l.hints } ∷ rest_from m lines (at + 1)

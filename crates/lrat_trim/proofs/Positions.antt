@@ -9,7 +9,8 @@ use Rattle.sat_form.proofs.Sets.{both, join}
 use Rattle.lrat_lines.specs.Lines.{Line, is_id}
 use Rattle.lrat_lines.specs.Lines.Line.{Add}
 use Rattle.lrat_trim.specs.Derivation.{LogLine, logged_from, are_earlier}
-use Rattle.lrat_trim.specs.Marks.{marked_from, marks_in, are_marked, AreClosed, moved_hints}
+use Rattle.lrat_trim.specs.Marks.{marked_from, marks_in, are_marked, moved_hints}
+use Rattle.lrat_trim.specs.Passing.{IsRenumbered}
 use Rattle.lrat_trim.specs.Trim.{new_id, renumbered}
 
 abbrev place_of : ℕ → List Logged → ℕ
@@ -66,14 +67,6 @@ marks_fit marks s (suc k) = let deep = marks_fit marks (s + 1) k in let one = at
     at_most : (b : Bool) → cond b 1 0 ≤ 1
     at_most true = omega arith
     at_most false = omega arith
-
--- The state of renumbering at a place: kept are the lines that are marked in all.
-pub record IsRenumbered (m : ℕ) (marks : List Bool) (kept : List Logged) (at : ℕ) (rest : List Logged) (ids : List ℕ) (new : List Line) : Type 0 where
-  pub size : length ids ≡ at
-  pub moved : (j : ℕ) → j < at → get_or ids j 0 ≡ m + 1 + marks_in marks 0 j
-  pub count : length new ≡ marks_in marks 0 at
-  pub lines : new ++ map (renumbered m kept) (marked_from marks at rest) ≡ map (renumbered m kept) kept
-  pub closed : AreClosed marks m at rest
 
 new_is : (m id place : ℕ) (kept : List Logged) → m < id → place_of id kept ≡ place → new_id m kept id ≡ m + 1 + place
 new_is m id place kept above is = ap (λ b. cond b id (m + 1 + place_of id kept)) (isnt_le id m above) ∙ ap (λ n. m + 1 + n) is

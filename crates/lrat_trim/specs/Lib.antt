@@ -3,3 +3,4 @@ pub mod Derivation
 pub mod Flat
 pub mod Marks
 pub mod Derived
+pub mod Passing

@@ -21,6 +21,7 @@ use lrat_lines::Line;
 use sat_form::Lit;
 use std::alloc::{AllocError, Global};
 use std::marker::Model;
+pub use text::Trimming;
 
 /// What a search learnt, in order: clauses with the ids of those that they follow from. The given clauses have the ids
 /// 1 to `inputs`, and the lines the ids behind them.
@@ -85,6 +86,15 @@ impl Log {
         renumber::marked_lines(self.alloc, self.inputs, &self.lines, &marks)
     }
 
+    /// The lines that `trim` answers, to be written one after the other, so that a caller who passes their text on needn't
+    /// hold it. The only error is want of memory. O(number of lines and hints). Memory: 1 byte a line.
+    pub fn trimming(&self) -> Result<Trimming<'_>, AllocError>
+        ensures { IfOk result (λ t. t.lines ≡ trim self.now.inputs self.now.lines) }
+    {
+        let marks = needed::marks(self.alloc, self.inputs, &self.lines)?;
+        Ok(Trimming::new(self.alloc, self.inputs, &self.lines, marks))
+    }
+
     /// Appends the text of the lines that `trim` answers, each in its one spelling, without making a list of them.
     ///
     /// The only error is want of memory, and it cuts `out` back to what it was. Time: O(number of lines, of literals and of
@@ -97,8 +107,9 @@ impl Log {
         ensures err { OnErr result (out.new.items ≡ out.old.items) }
     {
         let marks = needed::marks(self.alloc, self.inputs, &self.lines)?;
+        let mut trimming = Trimming::new(self.alloc, self.inputs, &self.lines, marks);
         let length = out.len();
-        let written = text::write_marked(self.alloc, self.inputs, &self.lines, &marks, out);
+        let written = text::write_all(&mut trimming, out);
         if written.is_err() {
             out.truncate(length);
         }

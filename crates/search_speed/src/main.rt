@@ -3,10 +3,28 @@
 
 mod draft;
 mod measured;
+mod pieces;
 
+use cdcl_solver::Search;
 use draft::clauses_of;
 use measured::{Found, search};
+use sat_form::Cnf;
 use std::{env, fs};
+
+/// The clauses that a file has, where it has clauses; its text isn't held any longer then.
+fn clauses_in(rt: &HostRuntime, path: &str) -> anyhow::Result<Option<Cnf>> {
+    let text = fs::read_to_string(rt, path)?;
+    Ok(clauses_of(rt.alloc(), &text)?)
+}
+
+/// Writes the certificate of a search into the file of that name, if one is named. Answers how many bytes it has.
+fn certificate(rt: &HostRuntime, searched: &Search, path: Option<String>) -> anyhow::Result<u64> {
+    let file = match path {
+        Some(path) => Some(fs::create(rt, path.as_str())?),
+        None => None,
+    };
+    Ok(pieces::write(rt.alloc(), searched.log(), file)?)
+}
 
 fn main(rt: HostRuntime) -> anyhow::Result<()> {
     let mut words = env::args(&rt)?;
@@ -15,19 +33,16 @@ fn main(rt: HostRuntime) -> anyhow::Result<()> {
         println!(rt; "usage: search_speed FILE STEPS [CERTIFICATE]")?;
         return Ok(());
     };
-    let text = fs::read_to_string(&rt, path.as_str())?;
-    let Some(cnf) = clauses_of(rt.alloc(), &text)? else {
+    let Some(cnf) = clauses_in(&rt, path.as_str())? else {
         println!(rt; "no clauses")?;
         return Ok(());
     };
     let budget = budget.parse::<u64>().unwrap_or(0).min(1 << 62);
     match search(rt.alloc(), &cnf, budget)? {
         Found::Satisfiable(spent) => println!(rt; "sat {spent}")?,
-        Found::Unsatisfiable(spent, certificate) => {
-            println!(rt; "unsat {spent} {}", certificate.len())?;
-            if let Some(path) = words.next() {
-                fs::write(&rt, path.as_str(), certificate)?;
-            }
+        Found::Unsatisfiable(spent, searched) => {
+            let length = certificate(&rt, &searched, words.next())?;
+            println!(rt; "unsat {spent} {length}")?;
         }
         Found::Unknown(spent) => println!(rt; "budget {spent}")?,
     }

@@ -3,8 +3,9 @@ use Rattle.std.proofs.lemmas.List.{with_items_is}
 use Rattle.sat_form.specs.Log.{Logged}
 use Rattle.lrat_trim.specs.Derivation.{LogLine}
 use Rattle.lrat_trim.specs.Flat.{no_line}
+use Rattle.lrat_trim.specs.Passing.{rest_from}
 use Rattle.lrat_trim.proofs.Marked.{IsMarkedFrom, mark_step}
-use Rattle.lrat_trim.proofs.Marking.{line_earlier, rest_from, rest_more}
+use Rattle.lrat_trim.proofs.Marking.{line_earlier, rest_more}
 use Rattle.lrat_trim.proofs.Pushed.{length_logged}
 use Rattle.lrat_trim.proofs.needed.marks.Goals as goal
 

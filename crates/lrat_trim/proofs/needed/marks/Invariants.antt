@@ -1,6 +1,6 @@
 use Rattle.std.proofs.Common.{◌≡◌, ◌≤◌, length}
+use Rattle.lrat_trim.specs.Passing.{rest_from}
 use Rattle.lrat_trim.proofs.Marked.{IsMarkedFrom}
-use Rattle.lrat_trim.proofs.Marking.{rest_from}
 use Rattle.lrat_trim.proofs.needed.marks.Given as goal
 
 abbrev pub invariant-loop-at : goal.invariant-loop-at

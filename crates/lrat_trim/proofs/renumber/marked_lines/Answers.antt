@@ -8,8 +8,9 @@ use Rattle.lrat_lines.specs.Seen.{seen}
 use Rattle.lrat_trim.specs.Derivation.{LogLine, logged_from}
 use Rattle.lrat_trim.specs.Flat.{no_line}
 use Rattle.lrat_trim.specs.Marks.{marked_from, moved_hints}
-use Rattle.lrat_trim.proofs.Marking.{line_earlier, rest_from, rest_more}
-use Rattle.lrat_trim.proofs.Positions.{IsRenumbered, all_last, id_fits, marks_fit, passed_over, taken_over}
+use Rattle.lrat_trim.specs.Passing.{IsRenumbered, rest_from}
+use Rattle.lrat_trim.proofs.Marking.{line_earlier, rest_more}
+use Rattle.lrat_trim.proofs.Positions.{all_last, id_fits, marks_fit, passed_over, taken_over}
 use Rattle.lrat_trim.proofs.renumber.marked_lines.Goals as goal
 use Rattle.lrat_trim.proofs.renumber.marked_lines.Goals.{then-marked+in_ok-moved_line+in_ok-push, else-marked}
 

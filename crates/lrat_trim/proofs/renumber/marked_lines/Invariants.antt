@@ -4,8 +4,7 @@ use Rattle.lrat_lines.specs.Lines.{is_id, is_writable}
 use Rattle.lrat_lines.specs.Seen.{seen}
 use Rattle.lrat_trim.specs.Derivation.{logged_from}
 use Rattle.lrat_trim.specs.Marks.{marked_from}
-use Rattle.lrat_trim.proofs.Marking.{rest_from}
-use Rattle.lrat_trim.proofs.Positions.{IsRenumbered}
+use Rattle.lrat_trim.specs.Passing.{IsRenumbered, rest_from}
 use Rattle.lrat_trim.proofs.renumber.marked_lines.Given as goal
 
 abbrev pub invariant-loop-at : goal.invariant-loop-at
