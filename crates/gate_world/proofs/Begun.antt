@@ -4,7 +4,7 @@ use Rattle.std.proofs.lemmas.List.{append-nil}
 use Rattle.std.proofs.lemmas.List.Elements.{All-nil}
 use Rattle.gate_shape.specs.Literal.{Literal}
 use Rattle.gate_shape.specs.Edge.{Edge, Gate, constant, input, gate, level, gate_level}
-use Rattle.gate_shape.specs.Builds.{NotDeep}
+use Rattle.gate_shape.specs.Builds.{NotDeep, Stands}
 use Rattle.gate_shape.specs.declared.builder.GateStop.{GateStop}
 use Rattle.gate_shape.specs.declared.builder.GateStop.TheVariants.{Deep, Full, Memory}
 use Rattle.gate_probe.specs.Sound.{IsSound, IsWithin, IsPart}
@@ -13,10 +13,10 @@ use Rattle.gate_probe.specs.Moves.{Probe, started}
 use Rattle.gate_probe.proofs.Standing.{stands_more, one_literal}
 use Rattle.goal_alone.specs.Alone as answer
 use Rattle.goal_alone.specs.Ends.{end_of}
-use Rattle.blast_goal.specs.Script.{AreCalls, AreAnswers, EndsAs, kept_with, calls_of}
+use Rattle.blast_goal.specs.Script.{list_of, AreCalls, AreAnswers, EndsAs, kept_with, kept_after, calls_of}
 use Rattle.gate_world.specs.Right.{IsScripted}
 use Rattle.gate_world.specs.Literals.{literal_in, if_gate, fanin_gates}
-use Rattle.gate_world.specs.Work.{Problem, Ended, Replied, script_of, to_probe, to_load, to_build}
+use Rattle.gate_world.specs.Work.{Problem, Ended, Replied, script_of, edge_of, to_probe, to_load, to_build}
 use Rattle.gate_world.specs.Coding.{AreNodes, IsCalls, IsReadBy, AreReadBy, ShowsBuilding, ShowsWork}
 use Rattle.gate_world.specs.declared.build.Calls.{Calls}
 use Rattle.gate_world.specs.declared.build.Stage.TheVariants as stage
@@ -84,7 +84,7 @@ none_shows p words seen g gs size work l r s low t low' f =
     subst (λ es. ShowsWork p words work (to_load size seen es g gs)) (sym fs) (f y.1 x.1)
 
 -- behind the last call
-ended_short : (kept gs : List Gate) (ls : List Literal) (stop : GateStop) → EndsAs kept gs ls (Err stop) → length ls < length gs
+pub ended_short : (kept gs : List Gate) (ls : List Literal) (stop : GateStop) → EndsAs kept gs ls (Err stop) → length ls < length gs
 ended_short kept [] [] Deep h = absurd h
 ended_short kept [] [] Full h = absurd h
 ended_short kept [] [] (Memory e) h = absurd h
@@ -119,9 +119,10 @@ if_ok (Err e) P Q f h = tt
 
 -- the script's calls, none of them made yet
 pub none_made : (p : Problem) (words : List ℕ) (c : Calls) → AreCalls [] (script_of p) c.script.calls.items → AreAnswers [] (script_of p) c.script.answers.items → EndsAs [] (script_of p) c.script.answers.items c.script.end
-    → length c.script.calls.items ≡ calls_of (length c.script.answers.items) c.script.end → c.call ≡ 0 → c.built.items ≡ [] → IsCalls p words [] (script_of p) c
+    → length c.script.calls.items ≡ calls_of (length c.script.answers.items) c.script.end → IfOk c.script.end (λ root. Stands (list_of (kept_after [] (script_of p))) root (edge_of p))
+    → c.call ≡ 0 → c.built.items ≡ [] → IsCalls p words [] (script_of p) c
 unfolding end_of
-none_made p words c calls answers ends count at built = record { calls = calls; answers = answers; ends = ends; count = count; cut = refl; at = at; built = subst (AreNodes words []) (sym built) tt; made = refl }
+none_made p words c calls answers ends count root at built = record { calls = calls; answers = answers; ends = ends; count = count; cut = refl; at = at; built = subst (AreNodes words []) (sym built) tt; root = root; made = refl }
 
 -- before the first call nothing need have been read
 pub nothing_read : (p : Problem) (words : List ℕ) (size : ℕ) → length words ≡ size → 1 ≤ size → size ≤ 4000000 → IsSound words → IsScripted p → AreReadBy words [] (script_of p)

@@ -175,7 +175,7 @@ before_push (x ∷ xs) g zero l = refl
 before_push (x ∷ xs) g (suc k) l = before_push xs g k (omega arith)
 
 pub calls_more : (p : Problem) (words more : List ℕ) (done ahead : List Gate) (c : Calls) → IsWithin words more → IsCalls p words done ahead c → IsCalls p more done ahead c
-calls_more p words more done ahead c w h = record { calls = h.calls; answers = h.answers; ends = h.ends; count = h.count; cut = h.cut; at = h.at; built = nodes_more words more (kept_after [] done) c.built.items w h.built; made = h.made }
+calls_more p words more done ahead c w h = record { calls = h.calls; answers = h.answers; ends = h.ends; count = h.count; cut = h.cut; at = h.at; built = nodes_more words more (kept_after [] done) c.built.items w h.built; root = h.root; made = h.made }
 
 module _ (p : Problem) (words : List ℕ) (done : List Gate) (g : Gate) (gs : List Gate) (c : Calls) (h : IsCalls p words done (g ∷ gs) c) where
   pub call_index : c.call < length c.script.calls.items
@@ -260,5 +260,6 @@ module _ (p : Problem) (words : List ℕ) (done : List Gate) (g : Gate) (gs : Li
         cut = whole;
         at = omega arith;
         built = subst (λ k. AreNodes more k new.built.items) (sym (kept_push [] done g)) nodes;
+        root = rw script h.root;
         made = m;
       }

@@ -11,18 +11,18 @@ use Rattle.cone_walk.specs.Cone.{is_gate, cone_node, cone_nodes}
 use Rattle.cone_walk.specs.Numbered.{gates_in}
 use Rattle.gate_world.specs.Literals.{arrivals, cone_gates}
 
-by_bool : (b : Bool) {P : Type 0} → (b ≡ true → P) → (b ≡ false → P) → P
+pub by_bool : (b : Bool) {P : Type 0} → (b ≡ true → P) → (b ≡ false → P) → P
 by_bool true f g = f refl
 by_bool false f g = g refl
 
-or_cases : (a b : Bool) {P : Type 0} → a || b ≡ true → (a ≡ true → P) → (b ≡ true → P) → P
+pub or_cases : (a b : Bool) {P : Type 0} → a || b ≡ true → (a ≡ true → P) → (b ≡ true → P) → P
 or_cases true b h f g = f refl
 or_cases false b h f g = g h
 
-or_left : (a b : Bool) → a ≡ true → a || b ≡ true
+pub or_left : (a b : Bool) → a ≡ true → a || b ≡ true
 or_left a b e = rw e refl
 
-or_right : (a b : Bool) → b ≡ true → a || b ≡ true
+pub or_right : (a b : Bool) → b ≡ true → a || b ≡ true
 or_right true b e = refl
 or_right false b e = e
 
@@ -39,14 +39,14 @@ same_swap x y = by_bool (same x y)
     (λ e. let is : x ≡ y = same-eq x y e in ap (λ z. same z y) is ∙ ap (λ z. same y z) (sym is))
     (λ n. by_bool (same y x) (λ e. let is : y ≡ x = same-eq y x e in absurd (true≢false (sym (subst (λ z. same x z ≡ true) (sym is) (same-self x)) ∙ n))) (λ m. n ∙ sym m))
 
-same_equiv : IsEquivalence same
+pub same_equiv : IsEquivalence same
 same_equiv = record {
   refl = same-self;
   symm = same_swap;
   congr = λ x y z e. ap (λ w. same w z) (same-eq x y e);
 }
 
-listed_is : (x : Edge) (xs : List Edge) → listed_edge x xs ≡ list_any (same x) xs
+pub listed_is : (x : Edge) (xs : List Edge) → listed_edge x xs ≡ list_any (same x) xs
 listed_is x [] = refl
 listed_is x (y ∷ ys) = ap (λ b. same x y || b) (listed_is x ys)
 
@@ -58,14 +58,14 @@ listed_append x (z ∷ zs) ys h k = or_cases (same x z) (listed_edge x (zs ++ ys
     (λ f. or_left (same x z || listed_edge x zs) (listed_edge x ys) (or_right (same x z) (listed_edge x zs) f))
     (λ f. or_right (same x z || listed_edge x zs) (listed_edge x ys) f))
 
-in_either : (x : Edge) (xs ys : List Edge) {P : Type 0} → listed_edge x (xs ++ ys) ≡ true → (listed_edge x xs ≡ true → P) → (listed_edge x ys ≡ true → P) → P
+pub in_either : (x : Edge) (xs ys : List Edge) {P : Type 0} → listed_edge x (xs ++ ys) ≡ true → (listed_edge x xs ≡ true → P) → (listed_edge x ys ≡ true → P) → P
 in_either x xs ys h f g = or_cases (listed_edge x xs) (listed_edge x ys) (listed_append x xs ys h (λ p q. refl)) f g
 
-in_left : (x : Edge) (xs ys : List Edge) → listed_edge x xs ≡ true → listed_edge x (xs ++ ys) ≡ true
+pub in_left : (x : Edge) (xs ys : List Edge) → listed_edge x xs ≡ true → listed_edge x (xs ++ ys) ≡ true
 in_left x [] ys h = absurd (true≢false (sym h))
 in_left x (z ∷ zs) ys h = or_cases (same x z) (listed_edge x zs) h (λ e. or_left (same x z) (listed_edge x (zs ++ ys)) e) (λ e. or_right (same x z) (listed_edge x (zs ++ ys)) (in_left x zs ys e))
 
-in_right : (x : Edge) (xs ys : List Edge) → listed_edge x ys ≡ true → listed_edge x (xs ++ ys) ≡ true
+pub in_right : (x : Edge) (xs ys : List Edge) → listed_edge x ys ≡ true → listed_edge x (xs ++ ys) ≡ true
 in_right x [] ys h = h
 in_right x (z ∷ zs) ys h = or_right (same x z) (listed_edge x (zs ++ ys)) (in_right x zs ys h)
 
@@ -85,17 +85,17 @@ unfolding IsDistinct
 once_push [] x d h = (tt, tt)
 once_push (y ∷ ys) x d h = let p = or_parts (same x y) (listed_edge x ys) h in (apart_push y ys x d.0 (same_swap y x ∙ p.0), once_push ys x d.1 p.1)
 
-once_firsts : (done xs : List Edge) → IsDistinct same done → IsDistinct same (firsts done xs)
+pub once_firsts : (done xs : List Edge) → IsDistinct same done → IsDistinct same (firsts done xs)
 unfolding firsts
 once_firsts done [] d = d
 once_firsts done (x ∷ xs) d = by_bool (listed_edge x done) (λ h. rw h (once_firsts done xs d)) (λ h. rw h (once_firsts (done ++ x ∷ []) xs (once_push done x d h)))
 
-none_once : IsDistinct same []
+pub none_once : IsDistinct same []
 unfolding IsDistinct
 none_once = tt
 
 -- what the first ones are
-firsts_of : (done xs : List Edge) (x : Edge) → listed_edge x (firsts done xs) ≡ true → listed_edge x (done ++ xs) ≡ true
+pub firsts_of : (done xs : List Edge) (x : Edge) → listed_edge x (firsts done xs) ≡ true → listed_edge x (done ++ xs) ≡ true
 unfolding firsts
 firsts_of done [] x h = in_left x done [] h
 firsts_of done (y ∷ ys) x h =
@@ -122,7 +122,7 @@ has_firsts done (y ∷ ys) x h =
     (λ t. by_bool (listed_edge y done) (λ e. rw e (has_firsts done ys x t)) (λ e. rw e (has_firsts (done ++ y ∷ []) ys x t)))
 
 -- gates alone
-only_gates : List Edge → List Edge
+pub only_gates : List Edge → List Edge
 only_gates [] = []
 only_gates (constant s ∷ xs) = only_gates xs
 only_gates (input s k j ∷ xs) = only_gates xs
@@ -142,7 +142,7 @@ gates_once (constant s ∷ xs) d = gates_once xs d.1
 gates_once (input s k j ∷ xs) d = gates_once xs d.1
 gates_once (gate s a b ∷ xs) d = (gates_apart (gate s a b) xs d.0, gates_once xs d.1)
 
-has_gates : (s : Bool) (a b : Edge) (xs : List Edge) → listed_edge (gate s a b) xs ≡ true → listed_edge (gate s a b) (only_gates xs) ≡ true
+pub has_gates : (s : Bool) (a b : Edge) (xs : List Edge) → listed_edge (gate s a b) xs ≡ true → listed_edge (gate s a b) (only_gates xs) ≡ true
 unfolding only_gates same
 has_gates s a b [] h = absurd (true≢false (sym h))
 has_gates s a b (constant t ∷ xs) h = has_gates s a b xs h
@@ -151,7 +151,7 @@ has_gates s a b (gate t c d ∷ xs) h = or_cases (same (gate s a b) (gate t c d)
     (λ e. or_left (same (gate s a b) (gate t c d)) (listed_edge (gate s a b) (only_gates xs)) e)
     (λ e. or_right (same (gate s a b) (gate t c d)) (listed_edge (gate s a b) (only_gates xs)) (has_gates s a b xs e))
 
-gates_of : (xs : List Edge) (x : Edge) → listed_edge x (only_gates xs) ≡ true → listed_edge x xs ≡ true
+pub gates_of : (xs : List Edge) (x : Edge) → listed_edge x (only_gates xs) ≡ true → listed_edge x xs ≡ true
 unfolding only_gates
 gates_of [] x h = h
 gates_of (constant s ∷ xs) x h = or_right (same x (constant s)) (listed_edge x xs) (gates_of xs x h)
@@ -206,10 +206,10 @@ count_gates ord (constant s ∷ xs) = sum_by-cons (λ n. cond (is_gate n) 1 0) (
 count_gates ord (input s k j ∷ xs) = sum_by-cons (λ n. cond (is_gate n) 1 0) (cone_node ord (input s k j)) (map (cone_node ord) xs) ∙ (let e = count_gates ord xs in omega arith)
 count_gates ord (gate s a b ∷ xs) = sum_by-cons (λ n. cond (is_gate n) 1 0) (cone_node ord (gate s a b)) (map (cone_node ord) xs) ∙ (let e = count_gates ord xs in omega arith)
 
-some_listed : (xs : List Edge) (x : Edge) → list_any (same x) xs ≡ true → listed_edge x xs ≡ true
+pub some_listed : (xs : List Edge) (x : Edge) → list_any (same x) xs ≡ true → listed_edge x xs ≡ true
 some_listed xs x h = listed_is x xs ∙ h
 
-came_in_order : (e x : Edge) → listed_edge x (cone_gates e) ≡ true → listed_edge x (only_gates (order e)) ≡ true
+pub came_in_order : (e x : Edge) → listed_edge x (cone_gates e) ≡ true → listed_edge x (only_gates (order e)) ≡ true
 unfolding order
 came_in_order e x h =
     let r = arrivals_are e x (firsts_of [] (arrivals e) x h) in
@@ -217,7 +217,7 @@ came_in_order e x h =
     subst (λ z. listed_edge z (only_gates (firsts [] (completions e))) ≡ true) (sym g.3)
     (has_gates g.0 g.1 g.2 (firsts [] (completions e)) (subst (λ z. listed_edge z (firsts [] (completions e)) ≡ true) g.3 (has_firsts [] (completions e) x r.1)))
 
-order_came : (e x : Edge) → listed_edge x (only_gates (order e)) ≡ true → listed_edge x (cone_gates e) ≡ true
+pub order_came : (e x : Edge) → listed_edge x (only_gates (order e)) ≡ true → listed_edge x (cone_gates e) ≡ true
 unfolding order
 order_came e x h =
     let g = gates_are (firsts [] (completions e)) x h in

@@ -8,6 +8,10 @@ pub mod Bounding
 pub mod Turning
 pub mod Lowering
 pub mod Cones
+pub mod Matched
+pub mod Nodes
+pub mod Counted
+pub mod Searched
 pub mod Coded
 pub mod Begun
 pub mod Told
@@ -15,3 +19,15 @@ pub mod InHand
 pub mod Proper
 pub mod Scripted
 pub mod Going
+pub mod Widened
+pub mod Asked
+pub mod Walked
+pub mod Tasked
+pub mod Behind
+pub mod Unended
+pub mod Weighed
+pub mod Draws
+pub mod Uncut
+pub mod DrawnSo
+pub mod Shown
+pub mod Happening

@@ -167,7 +167,7 @@ probes_problem words a g gs q (Claim s wanted) = claims_problem words a g gs q s
 probes_problem words a g gs q (Found node) = refl
 probes_problem words a g gs q Full = refl
 
-moved_problem : (words : List ℕ) (a : Actor) (work : Work) → (moved words a work).actor.problem ≡ a.problem
+pub moved_problem : (words : List ℕ) (a : Actor) (work : Work) → (moved words a work).actor.problem ≡ a.problem
 moved_problem words a (Loading e es g gs) = refl
 moved_problem words a (Probing g gs q) = probes_problem words a g gs q q.last
 moved_problem words a (Walking e es) = refl

@@ -57,7 +57,7 @@ unfolding has_gate
 nothing_kept gs g h = kept_in [] gs g h
 
 -- a literal of the list stands for a fanin over the gates that were called for
-made_by : (before : List Gate) (l : Literal) (e : Edge) → Stands (list_of (kept_after [] before)) l e → IsMade before e
+pub made_by : (before : List Gate) (l : Literal) (e : Edge) → Stands (list_of (kept_after [] before)) l e → IsMade before e
 made_by before l e s = go (nat_lt l.node 8193) refl
   where
     leaf : (x : Edge) → StandsIn [] l x → IsMade before x

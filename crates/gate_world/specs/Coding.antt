@@ -1,9 +1,9 @@
 -- What the code of a goal that builds its circuit has in hand: the script, how far it has come, and where in the table
 -- the gates of the script's list are.
-use Rattle.std.specs.Prelude.{◌≡◌, ℕ, ◌≤◌, false, List, [], ◌∷◌, ◌++◌, length, None}
+use Rattle.std.specs.Prelude.{◌≡◌, ℕ, ◌≤◌, false, List, [], ◌∷◌, ◌++◌, length, None, IfOk}
 use Rattle.gate_shape.specs.Literal.{Literal}
 use Rattle.gate_shape.specs.Edge.{Edge, Gate, level, gate_edge, simplified, key_below}
-use Rattle.gate_shape.specs.Builds.{Known, NotDeep}
+use Rattle.gate_shape.specs.Builds.{Known, NotDeep, Stands}
 use Rattle.gate_probe.specs.Sound.{IsSound, IsWithin}
 use Rattle.gate_probe.specs.Words.{word_at}
 use Rattle.gate_probe.specs.Standing.{StandsIn}
@@ -17,7 +17,7 @@ use Rattle.goal_alone.specs.Formula.{most_gates}
 use Rattle.blast_goal.specs.Script.{list_of, kept_after, AreCalls, AreAnswers, EndsAs, calls_of}
 use Rattle.goal_alone.specs.Alone.{Deep}
 use Rattle.gate_world.specs.Literals.{if_gate, fanin_gates}
-use Rattle.gate_world.specs.Work.{Problem, Work, Loading, Probing, Walking, Searching, Ended, Replied, NoRoom, script_of, cone_of, to_walk}
+use Rattle.gate_world.specs.Work.{Problem, Work, Loading, Probing, Walking, Searching, Ended, Replied, NoRoom, script_of, edge_of, cone_of, to_walk}
 use Rattle.bv_expr.specs.declared.goal.Goal.{Goal}
 use Rattle.gate_world.specs.declared.build.Calls.{Calls}
 use Rattle.gate_world.specs.declared.build.Stage.{Stage}
@@ -46,6 +46,7 @@ pub record IsCalls (p : Problem) (words : List ℕ) (done ahead : List Gate) (c 
   pub cut : script_of p ≡ done ++ ahead
   pub at : c.call ≡ length done
   pub built : AreNodes words (kept_after [] done) c.built.items
+  pub root : IfOk c.script.end (λ root. Stands (list_of (kept_after [] (script_of p))) root (edge_of p))
   pub made : end_of most_gates [] done ≡ Made
 
 -- the literal is one of the script's list, whose gates are in a table

@@ -5,4 +5,14 @@ pub mod Right
 pub mod Doing
 pub mod Bound
 pub mod Laws
+pub mod Counted
+pub mod Nodes
+pub mod Drawn
 pub mod Coding
+pub mod Cone
+pub mod Solving
+pub mod Tasks
+pub mod Reached
+pub mod Shown
+pub mod Scheduled
+pub mod Left

@@ -95,7 +95,7 @@ fn keep(nodes: &mut Vec<u32>, place: usize, node: u32) -> Result<(), AllocError>
 
 impl Calls {
     /// The literal in the table of a literal of the script.
-    fn literal(&self, lit: Lit23) -> Lit23
+    pub(crate) fn literal(&self, lit: Lit23) -> Lit23
         requires { IsOfList self.now lit }
         ensures { (words : List ℕ) (kept : List Gate) → AreNodes words kept self.now.built.items → Known (list_of kept) lit → StandsIn words result (edge (list_of kept) lit) }
     {

@@ -12,7 +12,7 @@ begin-requires-clause-calls c =
     let p : Problem = problem_of c.args.goal.now in
     let s = c.in_ok-script.ensures in
     let calls : Calls = record { script = c.in_ok-script.field-0; built = c.new.result; call = 0 } in
-    (p, [], [], script_of p, omega arith, none_made p [] calls s.calls s.answers s.end s.count refl c.new.ensures.items)
+    (p, [], [], script_of p, omega arith, none_made p [] calls s.calls s.answers s.end s.count s.root refl c.new.ensures.items)
 
 pub returns-clause-scripted : goal.returns-clause-scripted
 returns-clause-scripted c =
@@ -25,7 +25,7 @@ returns-clause-begun c = λ words long sound.
     let s = c.in_ok-script.ensures in
     let calls : Calls = record { script = c.in_ok-script.field-0; built = c.new.result; call = 0 } in
     let scripted = scripted_by p c.in_ok-script.field-0.calls.items c.in_ok-script.field-0.answers.items c.in_ok-script.field-0.end s.calls s.end s.count in
-    c.begin.ensures p words [] [] (script_of p) (none_made p words calls s.calls s.answers s.end s.count refl c.new.ensures.items)
+    c.begin.ensures p words [] [] (script_of p) (none_made p words calls s.calls s.answers s.end s.count s.root refl c.new.ensures.items)
     (nothing_read p words c.args.size long c.requires.size.0 c.requires.size.1 sound scripted)
 
 pub returns-clause-goes_on : goal.returns-clause-goes_on
