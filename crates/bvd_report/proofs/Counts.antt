@@ -1,4 +1,4 @@
--- The last line in the pieces that are appended.
+-- The line of counts in the pieces that are appended.
 use Rattle.std.proofs.Common.{◌≡◌, ◌++◌, ◌∙◌, ℕ, List, codes, decimal, ap, append_assoc, OnOk}
 use Rattle.std.specs.Prelude.{Result, is_ok, if◌then◌else◌}
 use Rattle.bvd_report.proofs.Fronts.{where_extended}

@@ -1,5 +1,5 @@
 -- The report of a run, its certificates and its status, from what became of each file. A new answer is a case of each function on `Told`.
-use Rattle.std.specs.Prelude.{ℕ, ◌+◌, max, List, [], ◌∷◌, ◌++◌, length, codes, decimal, Bool, true, false, count_by, if◌then◌else◌, Result, Ok, Err}
+use Rattle.std.specs.Prelude.{ℕ, ◌+◌, max, List, [], ◌∷◌, ◌++◌, length, codes, decimal, Bool, true, false, count_by, if◌then◌else◌, Result, Ok, Err, Option, Some, None}
 use Rattle.bvd_text.specs.declared.cursor.Place.{Place}
 use Rattle.bv_lex.specs.declared.fault.Fault.{Fault}
 use Rattle.bv_lex.specs.declared.fault.FaultKind.{FaultKind}
@@ -13,7 +13,7 @@ use Rattle.bv_print.specs.Values.{values_text}
 use Rattle.bv_print.specs.Canonical.{goal_text}
 use Rattle.lrat_replay.specs.declared.stop.ReplayStop.{ReplayStop}
 use Rattle.lrat_replay.specs.declared.stop.ReplayStop.TheVariants as stop
-use Rattle.bvd_words.specs.Requests.{Command, Prove, Alone, Check, Cnf, Show, Request}
+use Rattle.bvd_words.specs.Requests.{Command, Prove, Alone, Check, Schedule, Cnf, Show, Request}
 
 -- what is told of a goal
 pub data Told : Type 0 where
@@ -189,7 +189,7 @@ abbrev pub all_goals : List Part → List Line
 all_goals [] = []
 all_goals (part ∷ rest) = goals_of part.found ++ all_goals rest
 
--- how the last line counts a goal
+-- how a goal is counted
 pub data Verdict : Type 0 where
   Holds : Verdict
   Fails : Verdict
@@ -216,17 +216,30 @@ count_of verdict lines = count_by (λ line. same_verdict verdict (verdict_of lin
 abbrev pub counts_line : (holds fails : List ℕ) → List Line → List ℕ
 counts_line holds fails lines = codes "goals: " ++ decimal (count_of Holds lines) ++ codes " " ++ holds ++ codes ", " ++ decimal (count_of Fails lines) ++ codes " " ++ fails ++ codes ", " ++ decimal (count_of Other lines) ++ codes " other\n"
 
--- the last line of a command
+-- the counts of a command's goals
 abbrev pub summary : Command → List Line → List ℕ
 summary Prove lines = counts_line (codes "proved") (codes "false") lines
 summary Alone lines = counts_line (codes "proved") (codes "false") lines
+summary Schedule lines = counts_line (codes "proved") (codes "false") lines
 summary Check lines = counts_line (codes "accepted") (codes "refused") lines
 summary Cnf lines = []
 summary Show lines = []
 
+-- the gates in the cones of the goals that were searched to an end
+pub record Gates : Type 0 where
+  -- in all cones together
+  pub in_cones : ℕ
+  -- different ones
+  pub distinct : ℕ
+
+-- the line of gates, of a run that counts them
+abbrev pub gates_line : Option Gates → List ℕ
+gates_line None = []
+gates_line (Some g) = codes "gates: " ++ decimal g.in_cones ++ codes " in cones, " ++ decimal g.distinct ++ codes " distinct\n"
+
 -- the report of a request
-abbrev pub report : Request → List Part → List ℕ
-report request parts = lines_from request.command request.quiet 1 parts ++ summary request.command (all_goals parts)
+abbrev pub report : Request → List Part → Option Gates → List ℕ
+report request parts gates = lines_from request.command request.quiet 1 parts ++ summary request.command (all_goals parts) ++ gates_line gates
 
 -- the certificates of a run
 abbrev pub certificates : List Part → List (List ℕ × List ℕ)

@@ -1,10 +1,9 @@
 -- What the code's values stand for.
-use Rattle.std.specs.Prelude.{List, map, string_bytes, Result}
+use Rattle.std.specs.Prelude.{List, map, string_bytes}
 use Rattle.goal_reply.specs.declared.reply.Reply.{Reply}
 use Rattle.goal_reply.specs.declared.reply.Reply.TheVariants as reply
 use Rattle.goal_reply.specs.declared.reply.Outcome.{Outcome}
 use Rattle.goal_reply.specs.declared.reply.Outcome.TheVariants as outcome
-use Rattle.lrat_replay.specs.declared.stop.ReplayStop.{ReplayStop}
 use Rattle.bv_expr.specs.Statement.{statement_of}
 use Rattle.bvd_report.specs.declared.told.Told.{Told}
 use Rattle.bvd_report.specs.declared.told.Told.TheVariants as told
@@ -14,6 +13,7 @@ use Rattle.bvd_report.specs.declared.told.Found.TheVariants.{Absent, TooLong, Fa
 use Rattle.bvd_report.specs.declared.told.Part.{Part}
 use Rattle.bvd_report.specs.declared.summary.Verdict.{Verdict}
 use Rattle.bvd_report.specs.declared.summary.Verdict.TheVariants as verdict
+use Rattle.goal_reply.specs.declared.counts.GateCounts.{GateCounts}
 use Rattle.bvd_report.specs.Report as spec
 
 abbrev pub reply_shown : Reply → spec.Told
@@ -58,3 +58,6 @@ abbrev pub verdict_shown : Verdict → spec.Verdict
 verdict_shown verdict.Holds = spec.Verdict.Holds
 verdict_shown verdict.Fails = spec.Verdict.Fails
 verdict_shown verdict.Other = spec.Verdict.Other
+
+abbrev pub gates_shown : GateCounts → spec.Gates
+gates_shown g = record { in_cones = g.in_cones; distinct = g.distinct }

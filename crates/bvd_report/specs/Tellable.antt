@@ -1,5 +1,5 @@
 -- What a report has words for.
-use Rattle.std.specs.Prelude.{All, Result, Ok, Err}
+use Rattle.std.specs.Prelude.{All, Result, Err}
 use Rattle.bv_lex.specs.Cut.{IsMemory}
 use Rattle.bv_expr.specs.Goal.{Binders, AreValues}
 use Rattle.lrat_replay.specs.declared.stop.ReplayStop.{ReplayStop}

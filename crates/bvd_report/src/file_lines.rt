@@ -36,7 +36,9 @@ fn push_path(out: &mut Vec<u8>, command: Command, path: &str) -> Result<(), Allo
 {
     match command {
         Command::Cnf | Command::Show => Ok(()),
-        Command::Prove | Command::Alone | Command::Check => push_file_words(out, path, "\n"),
+        Command::Prove | Command::Alone | Command::Schedule | Command::Check => {
+            push_file_words(out, path, "\n")
+        }
     }
 }
 

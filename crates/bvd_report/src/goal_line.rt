@@ -103,6 +103,8 @@ pub(crate) fn push_goal(
     match command {
         Command::Cnf => push_formula(out, number, line),
         Command::Show => print_goal(line.goal, out),
-        Command::Prove | Command::Alone | Command::Check => push_numbered(out, number, line),
+        Command::Prove | Command::Alone | Command::Schedule | Command::Check => {
+            push_numbered(out, number, line)
+        }
     }
 }

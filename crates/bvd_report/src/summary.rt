@@ -1,17 +1,17 @@
-//! The last line: how many goals hold, fail, or neither. A goal holds where it is proved or its certificate is accepted, so one count serves the commands that solve and the one that checks.
-ghost use Rattle.std.specs.Prelude.{◌≡◌, ◌++◌, ◌<◌, ◌^◌, OnOk, codes, decimal, length};
+//! The last lines: how many goals hold, fail, or neither, and how many gates are in their cones where gates are counted. A goal holds where it is proved or its certificate is accepted, so one count serves the commands that solve and the one that checks.
+ghost use Rattle.std.specs.Prelude.{◌≡◌, ◌++◌, ◌<◌, ◌^◌, OnOk, codes, decimal, length, option_map};
 ghost use Rattle.bvd_words.specs.Asked.{command_shown};
-ghost use Rattle.bvd_report.specs.Report.{verdict_of, same_verdict, count_of, counts_line, summary, all_goals};
-ghost use Rattle.bvd_report.specs.Shown.{reply_shown, outcome_shown, told_shown, lines_shown, parts_shown, verdict_shown};
+ghost use Rattle.bvd_report.specs.Report.{verdict_of, same_verdict, count_of, counts_line, summary, all_goals, gates_line};
+ghost use Rattle.bvd_report.specs.Shown.{reply_shown, outcome_shown, told_shown, lines_shown, parts_shown, verdict_shown, gates_shown};
 
 use crate::outcome_line::push_pair;
 use crate::told::{Line, Part, Told, goals_of};
 use bvd_text::push_number;
 use bvd_words::Command;
-use goal_reply::{Outcome, Reply};
+use goal_reply::{GateCounts, Outcome, Reply};
 use std::alloc::AllocError;
 
-/// How the last line counts a goal.
+/// How a goal is counted.
 #[derive(Clone, Copy, Debug, PartialEq, Eq)]
 enum Verdict {
     Holds,
@@ -113,7 +113,7 @@ fn push_counts(
     out.extend_from_slice(b" other\n")
 }
 
-/// Adds the last line of a command.
+/// Adds the counts of a command's goals.
 pub(crate) fn push_summary(
     out: &mut Vec<u8>,
     command: Command,
@@ -123,8 +123,26 @@ pub(crate) fn push_summary(
     ensures { OnOk result (out.new.items ≡ out.old.items ++ summary (command_shown command) (all_goals (parts_shown parts.now))) }
 {
     match command {
-        Command::Prove | Command::Alone => push_counts(out, "proved", "false", parts),
+        Command::Prove | Command::Alone | Command::Schedule => {
+            push_counts(out, "proved", "false", parts)
+        }
         Command::Check => push_counts(out, "accepted", "refused", parts),
         Command::Cnf | Command::Show => Ok(()),
+    }
+}
+
+/// Adds the line of gates, of a run that counts them.
+pub(crate) fn push_gates(out: &mut Vec<u8>, gates: Option<GateCounts>) -> Result<(), AllocError>
+    ensures { OnOk result (out.new.items ≡ out.old.items ++ gates_line (option_map gates_shown gates)) }
+{
+    match gates {
+        Some(gates) => {
+            out.extend_from_slice(b"gates: ")?;
+            push_number(out, u128::from(gates.in_cones))?;
+            out.extend_from_slice(b" in cones, ")?;
+            push_number(out, u128::from(gates.distinct))?;
+            out.extend_from_slice(b" distinct\n")
+        }
+        None => Ok(()),
     }
 }

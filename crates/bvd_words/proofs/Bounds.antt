@@ -3,7 +3,7 @@ use Rattle.std.proofs.Common.{◌≡◌, ℕ, ◌≤◌, Bool, true, false, refl
 use Rattle.std.specs.Prelude.{Option, IfSome, if◌then◌else◌, ◌&&◌, nat_le, length}
 use Rattle.std.specs.List.{list_all}
 use Rattle.std.proofs.lemmas.Bool.Decides.{nat_tests}
-use Rattle.bvd_words.specs.Requests.{is_digit, number_in, number_or, value_from}
+use Rattle.bvd_words.specs.Requests.{is_digit, number_or, value_from}
 
 guarded : (b : Bool) (v most : ℕ) → (b ≡ true → v ≤ most) → IfSome (if b then Some v else None) (λ n. n ≤ most)
 guarded true v most h = h refl

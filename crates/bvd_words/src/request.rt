@@ -1,12 +1,10 @@
 //! What the words of the command line ask for: the commands, their tables of options, and the request that words make.
-ghost use Rattle.std.specs.Prelude.{◌≡◌, ◌≤◌, option_map, map, string_bytes, length, codes, IfOk, IfSome};
-ghost use Rattle.bvd_words.specs.Words as spec;
-ghost use Rattle.bvd_words.specs.Words.{text_of};
-ghost use Rattle.bvd_words.specs.Requests.{command_of, options_of, most_files, number_or, is_formed, request_from, request_of};
+ghost use Rattle.std.specs.Prelude.{◌≡◌, ◌≤◌, option_map, map, string_bytes, length, IfOk, IfSome};
+ghost use Rattle.bvd_words.specs.Requests.{command_of, options_of, most_files, seed_in, steps_in, table_in, request_from, request_of};
 ghost use Rattle.bvd_words.specs.Shown.{table, items_shown};
 ghost use Rattle.bvd_words.specs.Asked.{command_shown, request_shown};
 
-use crate::items::{files_of, has_flag, is_each_once, number_or, text_of};
+use crate::items::{files_of, has_flag, is_each_once, number_in, number_or, text_of};
 use crate::reader::{CommandOption, Item, Kind, cut};
 use std::alloc::{AllocError, Global};
 
@@ -16,16 +14,24 @@ pub enum Command {
     Prove,
     Alone,
     Check,
+    Schedule,
     Cnf,
     Show,
 }
 
-/// What is asked for: the command, the step budget of each goal, whether the report leaves out the lines of goals, and the files in order.
+/// What is asked for. A part that the command has no option for has the value of an option that is left out.
 #[derive(Drop)]
 pub struct Request<'a> {
     pub command: Command,
+    /// The step budget of each goal.
     pub steps: u64,
+    /// The seed of the schedule; 0 for a command without one.
+    pub seed: u32,
+    /// How many words the table of the schedule has.
+    pub table: u32,
+    /// Whether the report leaves out the lines of goals.
     pub quiet: bool,
+    /// The files in order.
     pub files: Vec<&'a str>,
 }
 
@@ -39,6 +45,8 @@ pub fn command_of(word: &str) -> Option<Command>
         Some(Command::Alone)
     } else if word == "check" {
         Some(Command::Check)
+    } else if word == "schedule" {
+        Some(Command::Schedule)
     } else if word == "cnf" {
         Some(Command::Cnf)
     } else if word == "show" {
@@ -63,12 +71,42 @@ static SOLVING: [CommandOption<'static>; 2] = [
     },
 ];
 
+/// The options of `schedule`.
+static SCHEDULING: [CommandOption<'static>; 4] = [
+    CommandOption {
+        name: "seed",
+        kind: Kind::Number {
+            least: 0,
+            most: 4_294_967_295,
+        },
+    },
+    CommandOption {
+        name: "steps",
+        kind: Kind::Number {
+            least: 1,
+            most: 1_000_000_000,
+        },
+    },
+    CommandOption {
+        name: "table",
+        kind: Kind::Number {
+            least: 1,
+            most: 4_000_000,
+        },
+    },
+    CommandOption {
+        name: "quiet",
+        kind: Kind::Switch,
+    },
+];
+
 /// The options of a command.
 pub fn options_of(command: Command) -> &'static [CommandOption<'static>]
     ensures { table result.now ≡ options_of (command_shown command) }
 {
     match command {
         Command::Prove | Command::Alone => &SOLVING,
+        Command::Schedule => &SCHEDULING,
         Command::Check | Command::Cnf | Command::Show => &[],
     }
 }
@@ -80,16 +118,37 @@ pub fn most_files(command: Command) -> usize
 {
     match command {
         Command::Cnf | Command::Show => 1,
-        Command::Prove | Command::Alone | Command::Check => 64,
+        Command::Prove | Command::Alone | Command::Check | Command::Schedule => 64,
     }
 }
 
 /// The step budget that items give.
 fn steps_of(items: &[Item<'_>]) -> Option<u64>
-    ensures steps { result ≡ number_or 10000000 1 1000000000 (text_of (codes "steps") (items_shown items.now)) }
+    ensures steps { result ≡ steps_in (items_shown items.now) }
     ensures most { IfSome result (λ n. n ≤ 1000000000) }
 {
     number_or(10_000_000, 1, 1_000_000_000, text_of(items, "steps"))
+}
+
+/// The seed that items give, or 0 for a command without one.
+fn seed_of(command: Command, items: &[Item<'_>]) -> Option<u32>
+    ensures { result ≡ seed_in (command_shown command) (items_shown items.now) }
+{
+    match command {
+        Command::Schedule => match text_of(items, "seed") {
+            Some(text) => number_in(text, 0, 4_294_967_295).map(|n| n as u32),
+            None => None,
+        },
+        Command::Prove | Command::Alone | Command::Check | Command::Cnf | Command::Show => Some(0),
+    }
+}
+
+/// The size of the table that items give.
+fn table_of(items: &[Item<'_>]) -> Option<u32>
+    ensures table { result ≡ table_in (items_shown items.now) }
+    ensures size { IfSome result (λ n. (1 ≤ n) × (n ≤ 4000000)) }
+{
+    number_or(2_097_152, 1, 4_000_000, text_of(items, "table")).map(|n| n as u32)
 }
 
 /// The request that items make.
@@ -101,19 +160,22 @@ fn request_from<'a>(
     ensures request { IfOk result (λ r. option_map request_shown r ≡ request_from (command_shown command) (items_shown items.now)) }
     ensures few { IfOk result (λ r. IfSome r (λ request. length request.files.items ≤ 64)) }
     ensures most { IfOk result (λ r. IfSome r (λ request. request.steps ≤ 1000000000)) }
+    ensures table { IfOk result (λ r. IfSome r (λ request. (1 ≤ request.table) × (request.table ≤ 4000000))) }
 {
     let files = files_of(alloc, items)?;
     if !is_each_once(items) || files.is_empty() || files.len() > most_files(command) {
         return Ok(None);
     }
-    match steps_of(items) {
-        Some(steps) => Ok(Some(Request {
+    match (steps_of(items), seed_of(command, items), table_of(items)) {
+        (Some(steps), Some(seed), Some(table)) => Ok(Some(Request {
             command,
             steps,
+            seed,
+            table,
             quiet: has_flag(items, "quiet"),
             files,
         })),
-        None => Ok(None),
+        _ => Ok(None),
     }
 }
 
@@ -123,6 +185,7 @@ pub fn read_words<'a>(alloc: Global, words: &'a [String]) -> Result<Option<Reque
     ensures request { IfOk result (λ r. option_map request_shown r ≡ request_of (map string_bytes words.now)) }
     ensures few { IfOk result (λ r. IfSome r (λ request. length request.files.items ≤ 64)) }
     ensures most { IfOk result (λ r. IfSome r (λ request. request.steps ≤ 1000000000)) }
+    ensures table { IfOk result (λ r. IfSome r (λ request. (1 ≤ request.table) × (request.table ≤ 4000000))) }
 {
     let [word, rest @ ..] = words else {
         return Ok(None);
