@@ -5,17 +5,18 @@ use Rattle.bvd_host.specs.Files.{Files, file_at}
 use Rattle.bv_lex.specs.declared.fault.Fault.{Fault}
 use Rattle.bv_expr.specs.Statement.{Statement}
 use Rattle.bv_parse.specs.Laws.{OneFault, OneReading, NotBoth}
-use Rattle.bvd_words.specs.Requests.{Command, Prove, Alone, Check, Cnf, Show, Request}
+use Rattle.bvd_words.specs.Requests.{Command, Prove, Alone, Check, Schedule, Cnf, Show, Request}
 use Rattle.bvd_report.specs.Report.{Told, Proved, Line, Found, Part, goals_of, all_goals, certificates}
 use Rattle.bvd_top.specs.Stated.{Stated, Absent, TooLong, Faulty, Goals, File, IsStatedBy, IsStatedIn, AreStated, IsSmall, goals_stated}
 use Rattle.bvd_top.specs.Storing.{with_all}
 use Rattle.bvd_top.specs.Names.{numbered, certificate_of}
-use Rattle.bvd_top.specs.Answered.{IsAnswered}
+use Rattle.bvd_top.specs.Answered.{IsAnsweredOrFull}
 use Rattle.bvd_top.specs.Checked.{IsChecked}
 use Rattle.bvd_top.specs.Told.{IsTold, IsLineOf, AreTold}
 use Rattle.bvd_top.specs.Parts.{IsFound, AreFound}
 use Rattle.bvd_top.specs.Laws.{IsSolving, IsConfirmed, AreConfirmed, LaterCheckAccepts}
 use Rattle.bvd_top.proofs.FilesStated.{by_small}
+use Rattle.bvd_top.proofs.Replies.{or_full}
 use Rattle.bvd_top.proofs.GoalsTold.{lines_count}
 use Rattle.bvd_top.proofs.CertificatesKept.{IsKept, AreKept, AreNumbered, all_kept, stays}
 use Rattle.bvd_top.proofs.Kept.{kept_is_accepted}
@@ -116,6 +117,7 @@ solving_name : (command : Command) (k : ℕ) (goal : Statement) → IsSolving co
 solving_name Prove k goal solving = refl
 solving_name Alone k goal solving = refl
 solving_name Check k goal solving = absurd solving
+solving_name Schedule k goal solving = refl
 solving_name Cnf k goal solving = absurd solving
 solving_name Show k goal solving = absurd solving
 
@@ -129,14 +131,15 @@ all_numbered request files missing k (goal ∷ goals) (line ∷ lines) solving a
     (are.0.named ∙ solving_name request.command k goal solving, all_numbered request files missing (k + 1) goals lines solving are.1)
 
 solved : (command : Command) (steps : ℕ) (files : Files) (missing : Type 0) (name : List ℕ) (goal : Statement) (told : Told) → IsSolving command
-    → IsTold command steps (Some files) missing name goal told → IsAnswered steps goal told
-solved Prove steps files missing name goal told solving is = is
-solved Alone steps files missing name goal told solving is = is
+    → IsTold command steps (Some files) missing name goal told → IsAnsweredOrFull steps goal told
+solved Prove steps files missing name goal told solving is = or_full steps goal told is
+solved Alone steps files missing name goal told solving is = or_full steps goal told is
+solved Schedule steps files missing name goal told solving is = is
 solved Check steps files missing name goal told solving is = absurd solving
 solved Cnf steps files missing name goal told solving is = absurd solving
 solved Show steps files missing name goal told solving is = absurd solving
 
-confirmed : (steps : ℕ) (final : Files) (missing : Type 0) (name : List ℕ) (goal : Statement) (told later : Told) → IsAnswered steps goal told → IsKept final name told
+confirmed : (steps : ℕ) (final : Files) (missing : Type 0) (name : List ℕ) (goal : Statement) (told later : Told) → IsAnsweredOrFull steps goal told → IsKept final name told
     → IsChecked (Some final) missing name goal later → IsConfirmed told later
 confirmed steps final missing name goal (Proved text) later is kept checked = kept_is_accepted steps goal text final missing name later is kept checked
 confirmed steps final missing name goal told later is kept checked = tt
@@ -146,6 +149,7 @@ checked_name : (command : Command) (k : ℕ) (goal : Statement) → command ≡ 
 checked_name Check k goal is none = ap (λ o. unwrap_or o (numbered k)) none
 checked_name Prove k goal is none = refl
 checked_name Alone k goal is none = refl
+checked_name Schedule k goal is none = refl
 checked_name Cnf k goal is none = refl
 checked_name Show k goal is none = refl
 

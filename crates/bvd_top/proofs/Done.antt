@@ -5,9 +5,10 @@ use Rattle.bvd_host.specs.Files.{Files}
 use Rattle.bvd_host.specs.Causes.{Rose}
 use Rattle.bvd_host.specs.Outside.{Outside, SinkFailed, IsHonest}
 use Rattle.bv_expr.specs.Statement.{Statement}
-use Rattle.bvd_words.specs.Requests.{Command, Prove, Alone, Check, Cnf, Show, Request}
-use Rattle.bvd_report.specs.Report.{Told, Proved, False, Budget, Deep, Large, Full, Cancelled, OutOfMemory, Clauses, Replayed, AbsentCertificate, Nothing, Line, Found, Part, goals_of, report, certificates, status_of, found_status, goals_status, told_status}
+use Rattle.bvd_words.specs.Requests.{Command, Prove, Alone, Check, Schedule, Cnf, Show, Request}
+use Rattle.bvd_report.specs.Report.{Told, Proved, False, Budget, Deep, Large, Full, Cancelled, OutOfMemory, Clauses, Replayed, AbsentCertificate, Nothing, Line, Found, Part, goals_of, certificates, status_of, found_status, goals_status, told_status}
 use Rattle.bvd_top.specs.Words.{usage}
+use Rattle.bvd_top.specs.Scheduled.{report_of}
 use Rattle.bvd_top.specs.Storing.{with_all}
 use Rattle.bvd_top.specs.Stated.{Stated, Absent, TooLong, Faulty, Goals, File, AreStated}
 use Rattle.bvd_top.specs.Told.{IsTold, IsLineOf, AreTold}
@@ -36,6 +37,7 @@ goal_told : (command : Command) (steps : ℕ) (files : Files) (m n : Type 0) (na
 goal_told Prove steps files m n name goal told is = is
 goal_told Alone steps files m n name goal told is = is
 goal_told Check steps files m n name goal told is = checked_told files m n name goal told is
+goal_told Schedule steps files m n name goal told is = is
 goal_told Cnf steps files m n name goal told is = is
 goal_told Show steps files m n name goal told is = is
 
@@ -71,7 +73,7 @@ files_told request files m n k (file ∷ rest) (part ∷ parts) are =
     (are.0, file_told request files m n k file.stated part.found are.1, files_told request files m n (k + length (goals_of part.found)) rest parts are.2)
 
 parts_told : (request : Request) (files : Files) (m n : Type 0) (parts : List Part) → ArePartsOf (Some files) m request parts → ArePartsOf (Some files) n request parts
-parts_told request files m n parts are = (are.0, all_stated_told files m n request.files are.0 are.1, files_told request files m n 1 are.0 parts are.2)
+parts_told request files m n parts are = (are.0, all_stated_told files m n request.files are.0 are.1, files_told request files m n 1 are.0 parts are.2, are.3)
 
 pub done : (o : Option Request) (files : Files) (text : List ℕ) (before after : Outside) (status : ℕ) → IsHonest before after files text → status ≢ 7 → AnsweredIf o before after status → Does o files text after status
 done None files text before after status honest seven r =
@@ -81,7 +83,7 @@ done (Some request) files text before after status honest seven (inl u) = absurd
 done (Some request) files text before after status honest seven (inr (inl u)) = absurd (not_stopped before.keeper_faults after.keeper_faults status honest.keeper_holds seven u.stops)
 done (Some request) files text before after status honest seven (inr (inr r)) =
     let missing = Rose before.missing after.missing in
-    let t = whole text (report request r.parts) (status_of r.parts) status before after honest.written_told honest.sink_holds seven r.tells in (
+    let t = whole text (report_of request r.parts) (status_of r.parts) status before after honest.written_told honest.sink_holds seven r.tells in (
       r.parts,
       parts_told request files missing ⊥ r.parts (subst (λ f. ArePartsOf f missing request r.parts) honest.files_told r.found),
       record {
@@ -190,7 +192,7 @@ device None before after status r = sink_told usage 2 before after status (λ e.
 device (Some request) before after status (inl u) = keeper_told before after status u.untold u.stops
 device (Some request) before after status (inr (inl u)) = keeper_told before after status u.untold u.stops
 device (Some request) before after status (inr (inr r)) =
-    sink_told (report request r.parts) (status_of r.parts) before after status (never_six (status_of r.parts) (parts_own r.parts).below) r.keeper_stays r.tells
+    sink_told (report_of request r.parts) (status_of r.parts) before after status (never_six (status_of r.parts) (parts_own r.parts).below) r.keeper_stays r.tells
 
 stops_not : (before now status : ℕ) → Stops before now status → status ≢ 2
 stops_not before now status (inl s) e = omega (arith, e, s.0)
@@ -204,4 +206,4 @@ pub words : (o : Option Request) (before after : Outside) (status : ℕ) → Ans
 words None before after status r e = refl
 words (Some request) before after status (inl u) e = absurd (stops_not before.keeper_faults after.keeper_faults status u.stops e)
 words (Some request) before after status (inr (inl u)) e = absurd (stops_not before.keeper_faults after.keeper_faults status u.stops e)
-words (Some request) before after status (inr (inr r)) e = absurd (tells_not (report request r.parts) (status_of r.parts) status before after (never_two (status_of r.parts) (parts_own r.parts).apart) r.tells e)
+words (Some request) before after status (inr (inr r)) e = absurd (tells_not (report_of request r.parts) (status_of r.parts) status before after (never_two (status_of r.parts) (parts_own r.parts).apart) r.tells e)

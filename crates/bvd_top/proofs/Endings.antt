@@ -5,13 +5,14 @@ use Rattle.bvd_host.specs.Files.{Files}
 use Rattle.bvd_host.specs.Causes.{Rose, HasCause}
 use Rattle.bvd_host.specs.Outside.{Outside}
 use Rattle.bvd_words.specs.Requests.{Request}
-use Rattle.bvd_report.specs.Report.{Part, report, certificates, status_of}
+use Rattle.bvd_report.specs.Report.{Part, certificates, status_of}
 use Rattle.bvd_top.specs.declared.stop.Stop.{Stop}
 use Rattle.bvd_top.specs.declared.stop.Stop.TheVariants.{Device, Memory}
 use Rattle.bvd_top.specs.Words.{usage}
 use Rattle.bvd_top.specs.Storing.{IsPartlyStored, with_all}
 use Rattle.bvd_top.specs.Stated.{Stated, File, IsStated, AreStated}
-use Rattle.bvd_top.specs.Parts.{AreFound, ArePartsOf}
+use Rattle.bvd_top.specs.Parts.{AreFound, AreAnswered, ArePartsOf}
+use Rattle.bvd_top.specs.Scheduled.{report_of}
 use Rattle.bvd_top.specs.Ending.{Stops, Tells, Untold, Finishes, AnsweredIf, status_in}
 use Rattle.bvd_top.proofs.Rising.{rose_later, rose_earlier}
 use Rattle.bvd_top.proofs.GoalsTold.{parts_later}
@@ -36,11 +37,12 @@ tells_from text own mid before after status written sink (inr (n, part, told, st
 
 -- the files were read and parsed, and then their goals were answered
 pub parts_found : (request : Request) (files mid : Option Files) (m0 m1 m2 : ℕ) (stated : List File) (parts : List Part) → AreStated files (Rose m0 m1) request.files stated
-    → mid ≡ files → m0 ≤ m1 → m1 ≤ m2 → AreFound request mid (Rose m1 m2) 1 stated parts → ArePartsOf files (Rose m0 m2) request parts
+    → mid ≡ files → m0 ≤ m1 → m1 ≤ m2 → AreAnswered request mid (Rose m1 m2) stated parts → ArePartsOf files (Rose m0 m2) request parts
 parts_found request files mid m0 m1 m2 stated parts read same h k found = (
   stated,
   all_stated_later files (Rose m0 m1) (Rose m0 m2) request.files stated (rose_later m0 m1 m2 k) read,
-  parts_later request files (Rose m1 m2) (Rose m0 m2) 1 stated parts (rose_earlier m0 m1 m2 h) (subst (λ f. AreFound request f (Rose m1 m2) 1 stated parts) same found),
+  parts_later request files (Rose m1 m2) (Rose m0 m2) 1 stated parts (rose_earlier m0 m1 m2 h) (subst (λ f. AreFound request f (Rose m1 m2) 1 stated parts) same found.0),
+  found.1,
 )
 
 pub stopped : (e : Stop) (before now : ℕ) → HasCause {T = Unit {0}} Device before now (Err e) → Stops before now (status_in (Err e))
@@ -48,9 +50,9 @@ stopped Device before now cause = inl (refl, record { rose = cause.failed refl; 
 stopped Memory before now cause = inr (refl, cause.spared (λ is. absurd cc))
 
 -- no file was found missing behind the answers
-pub found_at : (request : Request) (files : Option Files) (m0 m1 m2 : ℕ) (stated : List File) (parts : List Part) → m2 ≡ m1 → AreFound request files (Rose m0 m1) 1 stated parts
-    → AreFound request files (Rose m0 m2) 1 stated parts
-found_at request files m0 m1 m2 stated parts same found = subst (λ n. AreFound request files (Rose m0 n) 1 stated parts) (sym same) found
+pub found_at : (request : Request) (files : Option Files) (m0 m1 m2 : ℕ) (stated : List File) (parts : List Part) → m2 ≡ m1 → AreAnswered request files (Rose m0 m1) stated parts
+    → AreAnswered request files (Rose m0 m2) stated parts
+found_at request files m0 m1 m2 stated parts same found = subst (λ n. AreAnswered request files (Rose m0 n) stated parts) (sym same) found
 
 -- the goals were answered, and a certificate isn't written to its end
 pub unstored : (are : List Part → Type 0) (request : Request) (before after : Outside) (mid_files : Option Files) (mid_faults : ℕ) (parts : List Part) (e : Stop)
@@ -68,7 +70,7 @@ unstored are request before after mid_files mid_faults parts e found same faults
 -- the certificates are written, and the report or a part of it
 pub reported : (are : List Part → Type 0) (request : Request) (before after : Outside) (mid_files : Option Files) (mid_faults : ℕ) (parts : List Part) (text : List ℕ) (own status : ℕ)
     → are parts → mid_files ≡ before.files → after.files ≡ option_map (with_all (certificates parts)) mid_files → mid_faults ≡ before.keeper_faults → after.keeper_faults ≡ mid_faults
-    → text ≡ report request parts → own ≡ status_of parts → Tells text own before after status → Finishes are request before after status
+    → text ≡ report_of request parts → own ≡ status_of parts → Tells text own before after status → Finishes are request before after status
 reported are request before after mid_files mid_faults parts text own status found same stored faults kept written own_is tells =
     inr (inr (record {
       parts = parts;
@@ -98,7 +100,7 @@ goes_on are all request before mid after status f files written keeper sink (inr
   found = f r.parts r.found;
   stored = r.stored ∙ ap (option_map (with_all (certificates r.parts))) files;
   keeper_stays = r.keeper_stays ∙ keeper;
-  tells = tells_from (report request r.parts) (status_of r.parts) mid before after status written sink r.tells;
+  tells = tells_from (report_of request r.parts) (status_of r.parts) mid before after status written sink r.tells;
 }))
 
 same_text : (w : Option (List ℕ)) (text : List ℕ) → w ≡ option_map (λ t. t ++ take 0 text) w

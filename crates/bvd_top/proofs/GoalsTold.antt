@@ -4,7 +4,7 @@ use Rattle.std.specs.Prelude.{Option}
 use Rattle.bvd_host.specs.Files.{Files}
 use Rattle.bvd_host.specs.Causes.{Rose}
 use Rattle.bv_expr.specs.Statement.{Statement}
-use Rattle.bvd_words.specs.Requests.{Command, Prove, Alone, Check, Cnf, Show, Request}
+use Rattle.bvd_words.specs.Requests.{Command, Prove, Alone, Check, Schedule, Cnf, Show, Request}
 use Rattle.bvd_report.specs.Report.{Told, Line, Found, Part, goals_of, all_goals}
 use Rattle.bvd_top.specs.Stated.{Stated, Absent, TooLong, Faulty, Goals, File, goals_stated}
 use Rattle.bvd_top.specs.Told.{IsTold, IsLineOf, AreTold}
@@ -17,6 +17,7 @@ told_later : (command : Command) (steps : ℕ) (files : Option Files) (m n : Typ
 told_later Prove steps files m n name goal told f is = is
 told_later Alone steps files m n name goal told f is = is
 told_later Check steps files m n name goal told f is = checked_later files m n name goal told f is
+told_later Schedule steps files m n name goal told f is = is
 told_later Cnf steps files m n name goal told f is = is
 told_later Show steps files m n name goal told f is = is
 

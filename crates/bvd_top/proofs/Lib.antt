@@ -8,6 +8,8 @@ pub mod Replays
 pub mod Checks
 pub mod Tellable
 pub mod GoalsTold
+pub mod Ended
+pub mod Together
 pub mod Stored
 pub mod Endings
 pub mod Done

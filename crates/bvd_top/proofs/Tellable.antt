@@ -4,7 +4,7 @@ use Rattle.std.specs.Prelude.{Option, Result, Err, IsErrOf}
 use Rattle.std.proofs.lemmas.Bool.{cases_lt}
 use Rattle.bvd_host.specs.Files.{Files}
 use Rattle.bv_expr.specs.Statement.{Statement}
-use Rattle.bvd_words.specs.Requests.{Command, Prove, Alone, Check, Cnf, Show}
+use Rattle.bvd_words.specs.Requests.{Command, Prove, Alone, Check, Schedule, Cnf, Show}
 use Rattle.lrat_lines.specs.Judge.{Cause}
 use Rattle.lrat_lines.specs.Replay.{Fault, Verdict}
 use Rattle.lrat_lines.specs.Replay.Fault.{Malformed, Because}
@@ -13,7 +13,7 @@ use Rattle.lrat_replay.specs.declared.stop.ReplayStop.{ReplayStop}
 use Rattle.lrat_replay.specs.declared.stop.ReplayStop.TheVariants.{TooLong}
 use Rattle.bvd_report.specs.Report.{Told, False, Replayed}
 use Rattle.bvd_report.specs.Tellable.{IsDecided, IsTellable}
-use Rattle.bvd_top.specs.Answered.{IsAnswered}
+use Rattle.bvd_top.specs.Answered.{IsAnswered, IsAnsweredOrFull}
 use Rattle.bvd_top.specs.Checked.{IsChecked}
 use Rattle.bvd_top.specs.Clauses.{IsClausesTold}
 use Rattle.bvd_top.specs.Told.{IsTold}
@@ -41,6 +41,11 @@ answered_tellable steps goal (False values) is = is.1
 answered_tellable steps goal (Replayed end) is = absurd is
 answered_tellable steps goal told is = tt
 
+answered_or_full_tellable : (steps : ℕ) (goal : Statement) (told : Told) → IsAnsweredOrFull steps goal told → IsTellable goal.binders told
+answered_or_full_tellable steps goal (False values) is = is.1
+answered_or_full_tellable steps goal (Replayed end) is = absurd is
+answered_or_full_tellable steps goal told is = tt
+
 checked_tellable : (files : Option Files) (missing : Type 0) (name : List ℕ) (goal : Statement) (told : Told) → IsChecked files missing name goal told → IsTellable goal.binders told
 checked_tellable files missing name goal (False values) is = absurd is
 checked_tellable files missing name goal (Replayed end) is = let (verdict, comes, on) = is.1.answer in decided (2 ^ 64 - 1) is.1.bytes verdict end is.1.whole on
@@ -56,5 +61,6 @@ pub told_tellable : (command : Command) (steps : ℕ) (files : Option Files) (mi
 told_tellable Prove steps files missing name goal told is = answered_tellable steps goal told is
 told_tellable Alone steps files missing name goal told is = answered_tellable steps goal told is
 told_tellable Check steps files missing name goal told is = checked_tellable files missing name goal told is
+told_tellable Schedule steps files missing name goal told is = answered_or_full_tellable steps goal told is
 told_tellable Cnf steps files missing name goal told is = clauses_tellable goal told is
 told_tellable Show steps files missing name goal told is = rw is tt

@@ -29,3 +29,18 @@ IsAnswered steps goal (Clauses text) = ⊥
 IsAnswered steps goal (Replayed end) = ⊥
 IsAnswered steps goal AbsentCertificate = ⊥
 IsAnswered steps goal Nothing = ⊥
+
+-- the same, or that a shared table had no room for the goal's circuit
+abbrev pub IsAnsweredOrFull : ℕ → Statement → Told → Type 0
+IsAnsweredOrFull steps goal (Proved text) = IsAnswered steps goal (Proved text)
+IsAnsweredOrFull steps goal (False values) = IsAnswered steps goal (False values)
+IsAnsweredOrFull steps goal (Budget spent) = IsAnswered steps goal (Budget spent)
+IsAnsweredOrFull steps goal Deep = IsAnswered steps goal Deep
+IsAnsweredOrFull steps goal Large = IsAnswered steps goal Large
+IsAnsweredOrFull steps goal OutOfMemory = ⊤
+IsAnsweredOrFull steps goal Full = ⊤
+IsAnsweredOrFull steps goal (Cancelled by) = ⊥
+IsAnsweredOrFull steps goal (Clauses text) = ⊥
+IsAnsweredOrFull steps goal (Replayed end) = ⊥
+IsAnsweredOrFull steps goal AbsentCertificate = ⊥
+IsAnsweredOrFull steps goal Nothing = ⊥

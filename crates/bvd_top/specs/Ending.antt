@@ -7,7 +7,8 @@ use Rattle.bvd_top.specs.declared.stop.Stop.{Stop}
 use Rattle.bvd_top.specs.declared.stop.Stop.TheVariants.{Device, Memory}
 use Rattle.bvd_words.specs.Requests.{Request, request_of}
 use Rattle.bvd_top.specs.Words.{usage}
-use Rattle.bvd_report.specs.Report.{Part, report, certificates, status_of}
+use Rattle.bvd_report.specs.Report.{Part, certificates, status_of}
+use Rattle.bvd_top.specs.Scheduled.{report_of}
 use Rattle.bvd_top.specs.Storing.{IsPartlyStored, with_all}
 use Rattle.bvd_top.specs.Parts.{ArePartsOf}
 
@@ -52,7 +53,7 @@ pub record Reported (are : List Part → Type 0) (request : Request) (before aft
   pub found : are parts
   pub stored : after.files ≡ option_map (with_all (certificates parts)) before.files
   pub keeper_stays : after.keeper_faults ≡ before.keeper_faults
-  pub tells : Tells (report request parts) (status_of parts) before after status
+  pub tells : Tells (report_of request parts) (status_of parts) before after status
 
 -- how the run of a request ends, where this is what its parts are
 abbrev pub Finishes : (List Part → Type 0) → Request → Outside → Outside → ℕ → Type 0
@@ -99,4 +100,4 @@ pub record IsDone (report_is : List ℕ) (all : List (List ℕ × List ℕ)) (ow
 abbrev pub Does : Option Request → Files → List ℕ → Outside → ℕ → Type 0
 Does None files text after status = IsDone usage [] 2 files text after status
 Does (Some request) files text after status = (parts : List Part) × ArePartsOf (Some files) ⊥ request parts
-    × IsDone (report request parts) (certificates parts) (status_of parts) files text after status
+    × IsDone (report_of request parts) (certificates parts) (status_of parts) files text after status

@@ -1,7 +1,7 @@
 -- What the runs of the commands say of one another.
 use Rattle.std.specs.Prelude.{◌≡◌, ◌⊎◌, ◌≤◌, List, [], ◌∷◌, Some, None, Ok, ⊤, length, All, Contains}
 use Rattle.bvd_host.specs.Files.{Files}
-use Rattle.bvd_words.specs.Requests.{Command, Prove, Alone, Check, Cnf, Show, Request}
+use Rattle.bvd_words.specs.Requests.{Command, Prove, Alone, Check, Schedule, Cnf, Show, Request}
 use Rattle.bvd_report.specs.Report.{Told, Proved, Replayed, OutOfMemory, Line, Part, all_goals, certificates}
 use Rattle.bvd_top.specs.Parts.{ArePartsOf}
 use Rattle.bvd_top.specs.Storing.{with_all}
@@ -10,6 +10,7 @@ use Rattle.bvd_top.specs.Storing.{with_all}
 abbrev pub IsSolving : Command → Type 0
 IsSolving Prove = ⊤
 IsSolving Alone = ⊤
+IsSolving Schedule = ⊤
 IsSolving Check = ⊥
 IsSolving Cnf = ⊥
 IsSolving Show = ⊥

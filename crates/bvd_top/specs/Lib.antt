@@ -5,11 +5,13 @@ pub mod Answered
 pub mod Replayed
 pub mod Checked
 pub mod Clauses
+pub mod Scheduled
 pub mod Told
 pub mod Parts
 pub mod Reading
 pub mod Storing
 pub mod Shown
 pub mod Parsed
+pub mod Listed
 pub mod Ending
 pub mod Laws

@@ -1,6 +1,6 @@
 -- The names of certificates.
 use Rattle.std.specs.Prelude.{ℕ, List, ◌++◌, codes, decimal, unwrap_or}
-use Rattle.bvd_words.specs.Requests.{Command, Prove, Alone, Check, Cnf, Show}
+use Rattle.bvd_words.specs.Requests.{Command, Prove, Alone, Check, Schedule, Cnf, Show}
 use Rattle.bv_expr.specs.Statement.{Statement}
 
 -- the name of the k-th goal's certificate
@@ -11,6 +11,7 @@ numbered k = codes "goal-" ++ decimal k ++ codes ".lrat"
 abbrev pub certificate_of : Command → ℕ → Statement → List ℕ
 certificate_of Prove k goal = numbered k
 certificate_of Alone k goal = numbered k
+certificate_of Schedule k goal = numbered k
 certificate_of Check k goal = unwrap_or goal.stored (numbered k)
 certificate_of Cnf k goal = numbered k
 certificate_of Show k goal = numbered k

@@ -1,11 +1,11 @@
 -- What may be told of a goal, by each command.
 use Rattle.std.specs.Prelude.{◌≡◌, ℕ, ◌+◌, List, [], ◌∷◌, Option, ⊤}
 use Rattle.bvd_host.specs.Files.{Files}
-use Rattle.bvd_words.specs.Requests.{Command, Prove, Alone, Check, Cnf, Show, Request}
+use Rattle.bvd_words.specs.Requests.{Command, Prove, Alone, Check, Schedule, Cnf, Show, Request}
 use Rattle.bv_expr.specs.Statement.{Statement}
 use Rattle.bvd_report.specs.Report.{Told, Nothing, Line}
 use Rattle.bvd_top.specs.Names.{certificate_of}
-use Rattle.bvd_top.specs.Answered.{IsAnswered}
+use Rattle.bvd_top.specs.Answered.{IsAnswered, IsAnsweredOrFull}
 use Rattle.bvd_top.specs.Checked.{IsChecked}
 use Rattle.bvd_top.specs.Clauses.{IsClausesTold}
 
@@ -14,6 +14,7 @@ use Rattle.bvd_top.specs.Clauses.{IsClausesTold}
 abbrev pub IsTold : Command → ℕ → Option Files → Type 0 → List ℕ → Statement → Told → Type 0
 IsTold Prove steps files missing name goal told = IsAnswered steps goal told
 IsTold Alone steps files missing name goal told = IsAnswered steps goal told
+IsTold Schedule steps files missing name goal told = IsAnsweredOrFull steps goal told
 IsTold Check steps files missing name goal told = IsChecked files missing name goal told
 IsTold Cnf steps files missing name goal told = IsClausesTold goal told
 IsTold Show steps files missing name goal told = told ≡ Nothing

@@ -1,8 +1,10 @@
-//! The answers of a run, in order of goals. Each goal is numbered by its place in the run.
-ghost use Rattle.std.specs.Prelude.{◌≡◌, ◌≤◌, ◌<◌, ◌^◌, ◌+◌, All, map, length, IfOk};
+//! The answers of a run, in order of goals, where the goals have nothing to do with one another. Each goal is numbered by
+//! its place in the run.
+ghost use Rattle.std.specs.Prelude.{◌≡◌, ◌≢◌, ◌≤◌, ◌<◌, ◌^◌, ◌+◌, All, map, length, IfOk};
 ghost use Rattle.bvd_host.specs.Causes.{Rose, HasCause};
 ghost use Rattle.bv_expr.specs.Statement.{statement_of};
 ghost use Rattle.bvd_words.specs.Asked.{command_shown, request_shown};
+ghost use Rattle.bvd_words.specs.Requests.{Schedule};
 ghost use Rattle.bvd_report.specs.Report.{all_goals, goals_of};
 ghost use Rattle.bvd_report.specs.Shown.{told_shown, line_shown, lines_shown, found_shown, part_shown, parts_shown};
 ghost use Rattle.bvd_top.specs.Stated.{IsSmall};
@@ -33,7 +35,8 @@ fn told_of<K: Keeper>(
     name: &str,
     goal: &Goal,
 ) -> Result<Told, Stop>
-    requires { request.now.steps ≤ 1000000000 }
+    requires apart { command_shown request.now.command ≢ Schedule }
+    requires budget { request.now.steps ≤ 1000000000 }
     ensures told { IfOk result (λ told. IsTold (command_shown request.now.command) request.now.steps (K.files keeper.old) (Rose (K.missing keeper.old) (K.missing keeper.new)) name.now (statement_of goal.now) (told_shown told)) }
     ensures files { K.files keeper.new ≡ K.files keeper.old }
     ensures missing { K.missing keeper.old ≤ K.missing keeper.new }
@@ -44,6 +47,7 @@ fn told_of<K: Keeper>(
         Command::Check => told_check(alloc, keeper, name, goal),
         Command::Cnf => Ok(told_clauses(alloc, goal)?),
         Command::Show => Ok(Told::Nothing),
+        Command::Schedule => unreachable!(),
     }
 }
 
@@ -55,7 +59,8 @@ fn line_of<'a, K: Keeper>(
     number: usize,
     goal: &'a Goal,
 ) -> Result<Line<'a>, Stop>
-    requires { request.now.steps ≤ 1000000000 }
+    requires apart { command_shown request.now.command ≢ Schedule }
+    requires budget { request.now.steps ≤ 1000000000 }
     ensures tellable { IfOk result IsLine }
     ensures line { IfOk result (λ line. IsLineOf (request_shown request.now) (K.files keeper.old) (Rose (K.missing keeper.old) (K.missing keeper.new)) number (statement_of goal.now) (line_shown line)) }
     ensures files { K.files keeper.new ≡ K.files keeper.old }
@@ -79,6 +84,7 @@ fn answer_goals<'a, K: Keeper>(
     first: usize,
     goals: &'a [Goal],
 ) -> Result<Vec<Line<'a>>, Stop>
+    requires apart { command_shown request.now.command ≢ Schedule }
     requires budget { request.now.steps ≤ 1000000000 }
     requires few { first + length goals.now < 2 ^ 64 }
     ensures tellable { IfOk result (λ lines. All IsLine lines.items) }
@@ -105,6 +111,7 @@ fn found_of<'a, K: Keeper>(
     first: usize,
     stated: &'a Stated,
 ) -> Result<Found<'a>, Stop>
+    requires apart { command_shown request.now.command ≢ Schedule }
     requires budget { request.now.steps ≤ 1000000000 }
     requires small { IsSmall (stated_shown stated.now) }
     requires of_file { IsOfFile stated.now }
@@ -133,6 +140,7 @@ pub fn answer_all<'a, 'b, K: Keeper>(
     request: &Request<'_>,
     files: &'a [File<'b>],
 ) -> Result<Vec<Part<'a>>, Stop>
+    requires apart { command_shown request.now.command ≢ Schedule }
     requires budget { request.now.steps ≤ 1000000000 }
     requires small { All (λ f. IsSmall (stated_shown f.stated)) files.now }
     requires of_file { All (λ f. IsOfFile f.stated) files.now }

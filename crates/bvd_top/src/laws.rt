@@ -6,7 +6,7 @@ ghost use Rattle.bvd_top.specs.Laws.{LaterCheckAccepts};
 
 use bv_parse::one_answer;
 
-/// Each goal that a run of `prove` or `alone` told proved, and that names no stored certificate, is told accepted by a
+/// Each goal that a run of `prove`, `alone` or `schedule` told proved, and that names no stored certificate, is told accepted by a
 /// later `check` of the same theorem files over the files that this run left, or the check tells that it is out of memory
 /// for it. The budgets of both runs and whether they are quiet don't matter. It is said of runs whose certificates were all
 /// written, where nobody else writes the files in between, and where no certificate has the name of one of the theorem

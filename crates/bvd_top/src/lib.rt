@@ -11,6 +11,7 @@ mod naming;
 mod parsing;
 mod reading;
 mod run;
+mod scheduling;
 mod solving;
 mod stop;
 mod storing;

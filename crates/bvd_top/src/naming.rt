@@ -36,6 +36,7 @@ pub fn certificate_name(
 {
     match command {
         Command::Check => stored_name(alloc, number, goal),
-        Command::Prove | Command::Alone | Command::Cnf | Command::Show => numbered(alloc, number),
+        Command::Prove | Command::Alone | Command::Schedule | Command::Cnf | Command::Show =>
+            numbered(alloc, number),
     }
 }

@@ -3,8 +3,12 @@ ghost use Rattle.std.specs.Prelude.{◌≡◌, ◌≤◌, ◌<◌, ◌++◌, ◌
 ghost use Rattle.bvd_host.specs.Files.{Files};
 ghost use Rattle.bvd_host.specs.Causes.{Rose, HasCause};
 ghost use Rattle.bvd_host.specs.Outside.{outside, CountsStay, IsHonest};
-ghost use Rattle.bvd_words.specs.Asked.{request_shown};
-ghost use Rattle.bvd_top.specs.Parts.{AreFound};
+ghost use Rattle.bvd_words.specs.Asked.{command_shown, request_shown};
+ghost use Rattle.bvd_top.specs.Parts.{AreAnswered};
+ghost use Rattle.bvd_report.specs.Report.{all_goals};
+ghost use Rattle.bvd_report.specs.Shown.{gates_shown, parts_shown};
+ghost use Rattle.bvd_report.specs.Tellable.{IsPart};
+ghost use Rattle.bvd_top.specs.Scheduled.{gates_of};
 ghost use Rattle.bvd_top.specs.Stated.{IsSmall, AreStated};
 ghost use Rattle.bvd_top.specs.Shown.{stated_shown, files_shown};
 ghost use Rattle.bvd_top.specs.Parsed.{IsOfFile};
@@ -15,12 +19,14 @@ ghost use Rattle.bvd_top.specs.Ending.{Ending, Answered, Finishes, Does, IsFault
 use crate::answering::answer_all;
 use crate::parsing::{File, parse_all};
 use crate::reading::read_all;
+use crate::scheduling::schedule_all;
 use crate::stop::Stop;
 use crate::storing::store_certificates;
 use crate::telling::tell;
 use bvd_host::{Keeper, Sink};
-use bvd_report::{report, status_of};
-use bvd_words::{Request, read_words};
+use bvd_report::{Part, report, status_of};
+use bvd_words::{Command, Request, read_words};
+use goal_reply::GateCounts;
 use std::alloc::{AllocError, Global};
 
 /// The files of a request with what they state: all are read, and then they are parsed.
@@ -41,6 +47,35 @@ fn files_of<'a, K: Keeper>(
     Ok(parse_all(alloc, &reads)?)
 }
 
+/// What became of each file once its goals are answered, and the gates that a schedule counts.
+fn answered<'a, 'b, K: Keeper>(
+    alloc: Global,
+    keeper: &mut K,
+    request: &Request<'_>,
+    files: &'a [File<'b>],
+) -> Result<(Vec<Part<'a>>, Option<GateCounts>), Stop>
+    requires budget { request.now.steps ≤ 1000000000 }
+    requires table { (1 ≤ request.now.table) × (request.now.table ≤ 4000000) }
+    requires small { All (λ f. IsSmall (stated_shown f.stated)) files.now }
+    requires of_file { All (λ f. IsOfFile f.stated) files.now }
+    requires few { length files.now ≤ 64 }
+    ensures tellable { IfOk result (λ r. All IsPart r.0.items) }
+    ensures found { IfOk result (λ r. AreAnswered (request_shown request.now) (K.files keeper.old) (Rose (K.missing keeper.old) (K.missing keeper.new)) (files_shown files.now) (parts_shown r.0.items)) }
+    ensures gates { IfOk result (λ r. option_map gates_shown r.1 ≡ gates_of (command_shown request.now.command) (all_goals (parts_shown r.0.items))) }
+    ensures few { IfOk result (λ r. length (all_goals (parts_shown r.0.items)) ≤ 65536) }
+    ensures files { K.files keeper.new ≡ K.files keeper.old }
+    ensures missing { K.missing keeper.old ≤ K.missing keeper.new }
+    ensures cause { HasCause Stop.Device (K.faults keeper.old) (K.faults keeper.new) result }
+{
+    match request.command {
+        Command::Schedule => {
+            let (parts, counts) = schedule_all(alloc, request, files)?;
+            Ok((parts, Some(counts)))
+        }
+        _ => Ok((answer_all(alloc, keeper, request, files)?, None)),
+    }
+}
+
 /// Does what is asked with files whose goals are known: answers these, then writes the certificates, then the report.
 fn finish<K: Keeper, S: Sink>(
     alloc: Global,
@@ -50,15 +85,16 @@ fn finish<K: Keeper, S: Sink>(
     out: &mut S,
 ) -> Result<u8, Stop>
     requires budget { request.now.steps ≤ 1000000000 }
+    requires table { (1 ≤ request.now.table) × (request.now.table ≤ 4000000) }
     requires small { All (λ f. IsSmall (stated_shown f.stated)) files.now }
     requires of_file { All (λ f. IsOfFile f.stated) files.now }
     requires few { length files.now ≤ 64 }
     ensures counts { CountsStay (outside K.files K.faults K.missing S.written S.faults keeper.old out.old) (outside K.files K.faults K.missing S.written S.faults keeper.new out.new) }
-    ensures ending { Finishes (AreFound (request_shown request.now) (K.files keeper.old) (Rose (K.missing keeper.old) (K.missing keeper.new)) 1 (files_shown files.now)) (request_shown request.now)
+    ensures ending { Finishes (AreAnswered (request_shown request.now) (K.files keeper.old) (Rose (K.missing keeper.old) (K.missing keeper.new)) (files_shown files.now)) (request_shown request.now)
         (outside K.files K.faults K.missing S.written S.faults keeper.old out.old) (outside K.files K.faults K.missing S.written S.faults keeper.new out.new) (status_in result) }
 {
-    let parts = answer_all(alloc, keeper, request, files)?;
-    let text = report(alloc, request, &parts)?;
+    let (parts, gates) = answered(alloc, keeper, request, files)?;
+    let text = report(alloc, request, &parts, gates)?;
     store_certificates(keeper, &parts)?;
     tell(out, &text)?;
     Ok(status_of(&parts))
@@ -73,6 +109,7 @@ fn answer<K: Keeper, S: Sink>(
 ) -> Result<u8, Stop>
     requires few { length request.now.files.items ≤ 64 }
     requires budget { request.now.steps ≤ 1000000000 }
+    requires table { (1 ≤ request.now.table) × (request.now.table ≤ 4000000) }
     ensures counts { CountsStay (outside K.files K.faults K.missing S.written S.faults keeper.old out.old) (outside K.files K.faults K.missing S.written S.faults keeper.new out.new) }
     ensures ending { Answered (request_shown request.now) (outside K.files K.faults K.missing S.written S.faults keeper.old out.old) (outside K.files K.faults K.missing S.written S.faults keeper.new out.new) (status_in result) }
 {
@@ -116,7 +153,8 @@ fn end<K: Keeper, S: Sink>(alloc: Global, words: &[String], keeper: &mut K, out:
     }
 }
 
-/// Does what the words of the command line ask, and answers the exit status. The first word is the command.
+/// Does what the words of the command line ask, and answers the exit status. The first word is the command:
+/// `prove`, `alone`, `check`, `schedule`, `cnf` or `show`.
 ///
 /// | Status | Comes |
 /// |---|---|
@@ -125,13 +163,14 @@ fn end<K: Keeper, S: Sink>(alloc: Global, words: &[String], keeper: &mut K, out:
 /// | 2 | exactly where the words are refused: the usage is told, and nothing is asked of the keeper |
 /// | 3 | exactly where a goal's steps are spent, or its circuit is too deep or too large |
 /// | 4 | exactly where a file is absent, too long or faulty, or a certificate is absent |
+/// | 5 | exactly where a schedule's table had no room for a goal |
 /// | 6 | exactly where the keeper's or the sink's count of faults rose in this call, or stood at its end |
 /// | 7 | for want of memory, and for no other cause |
 ///
 /// The greatest that applies is answered, but a device that fails ends the run at once with 6, and then nothing more is
 /// asked of either device. What is told is always a beginning of the report, and one that is told whole is answered by
-/// its own status. Cost: the searches or the replays of the goals, and linear in the files, the certificates and the
-/// report.
+/// its own status. Cost: the searches, the events or the replays of the goals, and linear in the files, the certificates
+/// and the report.
 pub fn run_single<K: Keeper, S: Sink>(
     alloc: Global,
     words: &[String],
