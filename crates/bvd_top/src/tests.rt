@@ -383,7 +383,7 @@ fn are_equal(a: &Option<Vec<u8>>, b: &Option<Vec<u8>>) -> bool {
 fn every_schedule_tells_what_each_goal_is_told_alone(rt: HostRuntime) {
     let words = ["alone", "a.lean"];
     let alone = run(rt.alloc(), &words, Some(MASKS), NOTHING_FAILS).expect(&rt, "memory");
-    for seed in 1..=8u32 {
+    for seed in 1..=200u32 {
         let number = format!(in rt.alloc(); "{seed}").expect(&rt, "memory");
         let words = [
             "schedule",
