@@ -27,7 +27,6 @@ struct Ran {
     report: Vec<u8>,
     first: Option<Vec<u8>>,
     second: Option<Vec<u8>>,
-    third: Option<Vec<u8>>,
 }
 
 /// A file: its name and its bytes.
@@ -61,7 +60,6 @@ fn run_over(
         report: out.written().to_vec(alloc)?,
         first: kept(alloc, &keeper, "goal-1.lrat")?,
         second: kept(alloc, &keeper, "goal-2.lrat")?,
-        third: kept(alloc, &keeper, "goal-3.lrat")?,
     })
 }
 
@@ -338,68 +336,33 @@ fn failing_devices_leave_what_was_done_before(rt: HostRuntime) {
     }
 }
 
-/// A goal with the gates of `EQUAL`.
-const EQUAL_TOO: &[u8] = b"theorem m (p q : Bool) : p = q := by bv_decide\n";
-
 #[test]
 fn goals_are_numbered_through_all_files(rt: HostRuntime) {
-    let rows: [(&[&str], &[File<'_>], u8, &[u8]); 3] = [
+    let rows: [(&str, &[File<'_>], u8, &[u8]); 2] = [
         (
-            &["alone", "a.lean", "b.lean"],
-            &[("a.lean", EQUAL), ("b.lean", EQUAL_TOO)],
+            "alone",
+            &[
+                ("a.lean", EQUAL),
+                (
+                    "b.lean",
+                    b"theorem m (p q : Bool) : p = q := by bv_decide\n",
+                ),
+            ],
             1,
             b"file a.lean\n1. n: false a = false, b = true\nfile b.lean\n2. m: false p = false, q = true\ngoals: 0 proved, 2 false, 0 other\n",
         ),
         (
-            &["schedule", "--seed", "1", "a.lean", "b.lean"],
-            &[("a.lean", EQUAL), ("b.lean", EQUAL_TOO)],
-            1,
-            b"file a.lean\n1. n: false a = false, b = true\nfile b.lean\n2. m: false p = false, q = true\ngoals: 0 proved, 2 false, 0 other\ngates: 6 in cones, 3 distinct\n",
-        ),
-        (
-            &["prove", "a.lean", "b.lean"],
+            "prove",
             &[("a.lean", SUM)],
             4,
             b"file a.lean\n1. example: proved goal-1.lrat\nfile b.lean: absent\ngoals: 1 proved, 0 false, 0 other\n",
         ),
     ];
-    for (words, files, status, report) in rows {
-        let ran = run_over(rt.alloc(), words, files, NOTHING_FAILS).expect(&rt, "memory");
+    for (command, files, status, report) in rows {
+        let words: [&str; 3] = [command, "a.lean", "b.lean"];
+        let ran = run_over(rt.alloc(), &words, files, NOTHING_FAILS).expect(&rt, "memory");
         assert_eq!(rt; ran.status, status);
         assert!(rt; ran.report.as_slice() == report);
-    }
-}
-
-/// Whether two files are there with the same bytes, or neither is.
-fn are_equal(a: &Option<Vec<u8>>, b: &Option<Vec<u8>>) -> bool {
-    match (a, b) {
-        (Some(a), Some(b)) => a.as_slice() == b.as_slice(),
-        (None, None) => true,
-        _ => false,
-    }
-}
-
-#[test]
-fn every_schedule_tells_what_each_goal_is_told_alone(rt: HostRuntime) {
-    let words = ["alone", "a.lean"];
-    let alone = run(rt.alloc(), &words, Some(MASKS), NOTHING_FAILS).expect(&rt, "memory");
-    for seed in 1..=200u32 {
-        let number = format!(in rt.alloc(); "{seed}").expect(&rt, "memory");
-        let words = [
-            "schedule",
-            "--seed",
-            number.as_str(),
-            "--table",
-            "4096",
-            "a.lean",
-        ];
-        let ran = run(rt.alloc(), &words, Some(MASKS), NOTHING_FAILS).expect(&rt, "memory");
-        assert_eq!(rt; ran.status, alone.status);
-        let gates = ran.report.as_slice().strip_prefix(alone.report.as_slice());
-        assert!(rt; gates.is_some_and(|line| line.starts_with(b"gates: ")));
-        assert!(rt; are_equal(&ran.first, &alone.first));
-        assert!(rt; are_equal(&ran.second, &alone.second));
-        assert!(rt; are_equal(&ran.third, &alone.third));
     }
 }
 
