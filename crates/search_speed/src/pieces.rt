@@ -6,7 +6,7 @@ use std::fs::File;
 use std::io::{self, Write};
 
 /// From so many bytes on a piece is passed on.
-const PIECE: usize = 1 << 14;
+const PIECE: usize = 1 << 12;
 
 /// Passes a piece on to the file, if there is one, and empties it. Answers how many bytes were passed on by then.
 fn put(file: &mut Option<File>, piece: &mut Vec<u8>, before: u64) -> io::Result<u64> {
