@@ -17,5 +17,6 @@ pub mod Printed
 pub mod Tokens
 pub mod Named
 pub mod Stated
+pub mod Held
 pub mod Parsed
 pub mod Reread

@@ -1,12 +1,11 @@
 -- The goals of a file are goals that the syntax can spell.
 use Rattle.std.proofs.Common.{◌≡◌, ◌≢◌, Bool, true, false, ℕ, zero, suc, ◌+◌, ◌-◌, ◌<◌, ◌≤◌, ◌^◌, List, [], ◌∷◌, ◌++◌, length, get_or, take, drop, Option, Some, None, refl, sym, subst, arith, ap, ◌∙◌, codes}
-use Rattle.std.specs.Prelude.{All, IsSome, IsTrue, bytes_eq, slice_get, slice_range, option_and_then, option_map, map, nat_le, ◌&&◌, if◌then◌else◌}
+use Rattle.std.specs.Prelude.{All, IsTrue, bytes_eq, slice_get, slice_range, option_and_then, option_map, map, flat_map, if◌then◌else◌}
 use Rattle.std.specs.Str.{IsUtf8, is_utf8}
 use Rattle.std.specs.Str.Lossy.{utf8_valid_len, valid_len_up_to}
 use Rattle.std.proofs.lemmas.Str.{IsUtf8-nil, IsUtf8-from_is_utf8, IsUtf8-drop, IsUtf8-take, IsCharBoundary-before_ascii, IsCharBoundary-after_ascii}
-use Rattle.std.proofs.lemmas.Grind.{common_steps}
 use Rattle.std.proofs.lemmas.Option.{slice_get_within, get_or_from_slice_get}
-use Rattle.std.proofs.lemmas.List.Elements.{All-nil, All-cons, All-head, All-tail, All-append}
+use Rattle.std.proofs.lemmas.List.Elements.{All-nil, All-cons, All-head, All-append}
 use Rattle.std.proofs.Math.Seq.{take-length}
 use Rattle.bv_lex.specs.declared.token.Token.{Token}
 use Rattle.bv_lex.specs.declared.token.TokenKind.{TokenKind}
@@ -16,7 +15,6 @@ use Rattle.std.specs.List.{list_any}
 use Rattle.bv_lex.specs.Signs.{kind_of_word, reserved_words}
 use Rattle.bv_lex.specs.Pieces.{Piece, blank, line_comment, nested_comment, name, decimal_numeral, prefixed_numeral, string, sign}
 use Rattle.bv_lex.specs.Cut.{IsWithin, AreTokens}
-use Rattle.bv_lex.proofs.Encoding.{and_parts}
 use Rattle.bv_lex.proofs.Reading.{read}
 use Rattle.bv_lex.proofs.Values.{range_length}
 use Rattle.bv_grammar.specs.declared.words.Terminal.TheVariants as terminal_kinds
@@ -25,41 +23,33 @@ use Rattle.bv_expr.specs.declared.ops.Sort.{Sort}
 use Rattle.bv_expr.specs.declared.ops.Sort.TheVariants.{Truth, Vector}
 use Rattle.bv_expr.specs.declared.ops.Unary.{Unary}
 use Rattle.bv_expr.specs.declared.ops.Unary.TheVariants as of
-use Rattle.bv_expr.specs.Goal.{Binders, is_sort, variables}
-use Rattle.bv_expr.specs.Sorts.{vectors, unary_sort, binary_sort, choice_sort, truth_choice_sort, sort_of, IsExpr}
-use Rattle.bv_expr.specs.Statement.{Statement}
+use Rattle.bv_expr.specs.Goal.{Binders, variables}
+use Rattle.bv_expr.specs.Sorts.{vectors, unary_sort, binary_sort, choice_sort, truth_choice_sort, sort_of}
 use Rattle.bv_expr.specs.Term.{Term, constant, variable, truth, truth_variable, unary, binary, choice, truth_choice}
 use Rattle.bv_trees.specs.Trees.{Tree, Goal}
 use Rattle.bv_trees.specs.Terms.{IsAt}
 use Rattle.bv_trees.specs.Files as f
 use Rattle.bv_typing.specs.Source.{Source, text_at, number_of, number_of_kind, number_at, quoted_in, quoted_of, quoted_at}
-use Rattle.bv_typing.specs.Variables.{Bound, all_bounds, binders_of}
+use Rattle.bv_typing.specs.Variables.{binders_of}
 use Rattle.bv_typing.specs.Readings.{Env, term}
-use Rattle.bv_typing.specs.Goals.{hypotheses, bound_misfits, goal_misfits, file_misfits, name_between, statement}
-use Rattle.bv_terms.specs.Sorting.{IsWidth, Bounded}
+use Rattle.bv_typing.specs.Goals.{misfits, truth_misfits, bound_misfits, hypotheses, terms_of, env_of, goal_misfits, file_misfits, name_between, statement}
+use Rattle.bv_terms.proofs.Built.{Numbered}
+use Rattle.bv_terms.proofs.OverTrees.{none_in, truth_term}
+use Rattle.bv_terms.proofs.OverGoals.{goal_bounded, goal_numbered, goal_fits}
 use Rattle.bv_print.specs.Spelling.{kept_numbers}
 use Rattle.bv_print.specs.Canonical.{name_at}
 use Rattle.bv_canon.specs.Names.{IsGoalName, IsQuoted, IsStored}
-use Rattle.bv_canon.specs.Reading.{terminals, NumbersFit, IsSpellable, IsHeld, IsOfSyntax}
+use Rattle.bv_canon.specs.Reading.{terminals, NumbersFit, IsSpellable, IsOfSyntax}
 use Rattle.bv_canon.proofs.Tokens.{all_utf8, token_in, get_drop, range_get, has_token}
 use Rattle.bv_canon.proofs.Named.{theorem_name, example_name, bound_names, binder_names}
-use Rattle.bv_canon.proofs.Stated.{HaveSorts, have_sorts, named_binder, written_numbers, Small, Fine, IsKnown, fine_term, none_left, none_right}
+use Rattle.bv_canon.proofs.Stated.{have_sorts, written_numbers, Small, Fine, IsKnown, fine_term, none_left, none_right}
+use Rattle.bv_canon.proofs.Held.{width_within, held}
+use Rattle.bv_canon.proofs.Terms.{and_then_parts}
 
 -- ---- from written numbers to all
 
-and_then_parts : {A B : Type 0} (f : A → Option B) (o : Option A) (b : B) → option_and_then f o ≡ Some b → (a : A) × (o ≡ Some a) × (f a ≡ Some b)
-and_then_parts f None b h = cc
-and_then_parts f (Some a) b h = (a, refl, h)
-
 width_small : (w : ℕ) (s : Sort) → vectors w ≡ Some s → w < 2 ^ 128
-width_small w s h = go (nat_le 1 w && nat_le w 128) refl h
-  where
-    most : (m n : ℕ) → nat_le m n ≡ true → m ≤ n
-    most m n h = grind (arith, common_steps)
-
-    go : (b : Bool) → (nat_le 1 w && nat_le w 128) ≡ b → (if b then Some (Vector w) else None) ≡ Some s → w < 2 ^ 128
-    go true e h = let p = and_parts (nat_le 1 w) (nat_le w 128) e in let m = most w 128 p.1 in omega arith
-    go false e h = absurd (cc)
+width_small w s h = let p = width_within w s h in omega arith
 
 all_kept : (op : Unary) (s r : Sort) → unary_sort op s ≡ Some r → Small (written_numbers op) → Small (kept_numbers op)
 all_kept (of.Extract start len) Truth r e h = absurd (cc)
@@ -116,20 +106,30 @@ names_fit binders (choice c x y) h =
 names_fit binders (truth_choice c x y) h =
     All-append (IsNoBlank binders) (variables c) (variables x ++ variables y) (names_fit binders c h.0) (All-append (IsNoBlank binders) (variables x) (variables y) (names_fit binders x h.1) (names_fit binders y h.2))
 
-spellable : (e : Env) → IsKnown e → (x : Tree) → IsExpr (term e 0 x) → IsSpellable (binders_of e.bounds) (term e 0 x)
-spellable e k x held =
-    let fine = fine_term e k 0 x in
-    let sort = sort_there (sort_of (term e 0 x)) held.sorted in
-    record { expr = held; numbers = numbers_fit (binders_of e.bounds) (term e 0 x) sort.0 sort.1 fine; named = names_fit (binders_of e.bounds) (term e 0 x) fine }
-  where
-    sort_there : (o : Option Sort) → IsSome o → (s : Sort) × (o ≡ Some s)
-    sort_there None h = absurd (cc)
-    sort_there (Some s) h = (s, refl)
+abbrev AreSpellable : Env → List Tree → Type 0
+AreSpellable e xs = All (IsSpellable (binders_of e.bounds)) (map (term e 0) xs)
 
-all_spellable : (e : Env) → IsKnown e → (xs : List Tree) → All IsExpr (map (term e 0) xs) → All (IsSpellable (binders_of e.bounds)) (map (term e 0) xs)
-all_spellable e k [] h = All-nil (IsSpellable (binders_of e.bounds))
-all_spellable e k (x ∷ xs) h =
-    All-cons (IsSpellable (binders_of e.bounds)) (term e 0 x) (map (term e 0) xs) (spellable e k x (All-head IsExpr (term e 0 x) (map (term e 0) xs) h)) (all_spellable e k xs (All-tail IsExpr (term e 0 x) (map (term e 0) xs) h))
+spellable : (e : Env) → IsKnown e → Numbered e → (x : Tree) → misfits e x ≡ [] → truth_misfits e x ≡ [] → IsSpellable (binders_of e.bounds) (term e 0 x)
+spellable e k n x h g =
+    let fine = fine_term e k 0 x in
+    record {
+      expr = held e k n x h g;
+      numbers = numbers_fit (binders_of e.bounds) (term e 0 x) Truth (truth_term e k.bounded x h g) fine;
+      named = names_fit (binders_of e.bounds) (term e 0 x) fine;
+    }
+
+-- hypotheses, and a conclusion behind them
+all_spellable : (e : Env) → IsKnown e → Numbered e → (hs : List Tree) (c : Tree)
+    → flat_map (misfits e) (hs ++ c ∷ []) ≡ [] → flat_map (truth_misfits e) (hs ++ c ∷ []) ≡ [] → AreSpellable e hs × IsSpellable (binders_of e.bounds) (term e 0 c)
+all_spellable e k n [] c h g =
+    let p = none_in (misfits e c) [] h in
+    let q = none_in (truth_misfits e c) [] g in
+    (All-nil (IsSpellable (binders_of e.bounds)), spellable e k n c p.0 q.0)
+all_spellable e k n (x ∷ hs) c h g =
+    let p = none_in (misfits e x) (flat_map (misfits e) (hs ++ c ∷ [])) h in
+    let q = none_in (truth_misfits e x) (flat_map (truth_misfits e) (hs ++ c ∷ [])) g in
+    let rest = all_spellable e k n hs c p.1 q.1 in
+    (All-cons (IsSpellable (binders_of e.bounds)) (term e 0 x) (map (term e 0) hs) (spellable e k n x p.0 q.0) rest.0, rest.1)
 
 -- ---- what a file tells
 
@@ -146,21 +146,6 @@ number_small s c i = go (slice_get s.tokens i) refl
     go : (t : Option Token) → slice_get s.tokens i ≡ t → number_of t < 2 ^ 128
     go None e = omega arith
     go (Some t) e = by_kind t.kind (token_in s.bytes s.tokens c i t e).within
-
-bounded : (s : Source) (bs : List Bound) → HaveSorts bs → All (λ b. IsTrue (is_sort b.1)) (binders_of bs) → Bounded (record { source = s; bounds = bs })
-bounded s bs h sorts i k u e = widths u (sort_at_place (binders_of bs) k (text_at s i, Vector u) sorts (named_binder bs (text_at s i) k (Vector u) h e).1)
-  where
-    most : (m n : ℕ) → nat_le m n ≡ true → m ≤ n
-    most m n h = grind (arith, common_steps)
-
-    widths : (u : ℕ) → IsTrue (is_sort (Vector u)) → IsWidth u
-    widths u t = let p = and_parts (nat_le 1 u) (nat_le u 128) t in (most 1 u p.0, most u 128 p.1)
-
-    sort_at_place : (bs : Binders) (k : ℕ) (b : List ℕ × Sort) → All (λ b. IsTrue (is_sort b.1)) bs → slice_get bs k ≡ Some b → IsTrue (is_sort b.1)
-    sort_at_place [] zero b h e = absurd (cc)
-    sort_at_place [] (suc k) b h e = absurd (cc)
-    sort_at_place (c ∷ bs) zero b h e = let same : c ≡ b = cc in subst (λ b. IsTrue (is_sort b.1)) same (All-head (λ b. IsTrue (is_sort b.1)) c bs h)
-    sort_at_place (c ∷ bs) (suc k) b h e = sort_at_place bs k b (All-tail (λ b. IsTrue (is_sort b.1)) c bs h) e
 
 -- ---- stored files
 
@@ -250,31 +235,34 @@ proof_stored s c (f.by_tactic b n t) = stored_is s c t
 
 -- ---- goals
 
-abbrev OfSyntax : Statement → Type 0
-OfSyntax goal = IsHeld goal → IsOfSyntax goal
-
-goal_of_syntax : (s : Source) → AreTokens s.bytes s.tokens → {h i j : ℕ} {g : Goal} → f.Statement (terminals s) h i g j → IsGoalName (name_between s h i) → goal_misfits s g ≡ [] → OfSyntax (statement s g)
-goal_of_syntax s c {h} {i} (f.statement {bs = bs} {x = x} {s = o} b colon t assign p) n fits held =
-    let bound = all_bounds s bs in
-    let sorts = have_sorts [] bound (none_left (bound_misfits [] bound) _ fits) in
-    let known : IsKnown (record { source = s; bounds = bound }) = record { sorts = sorts; bounded = bounded s bound sorts held.fits.sorts; small = number_small s c } in
+goal_of_syntax : (s : Source) → AreTokens s.bytes s.tokens → {h i j : ℕ} {g : Goal} → f.Statement (terminals s) h i g j
+    → IsGoalName (name_between s h i) → goal_misfits s g ≡ [] → IsOfSyntax (statement s g)
+goal_of_syntax s c {h} {i} (f.statement {bs = bs} {x = x} {s = o} b colon t assign p) n fits =
+    let g : Goal = record { head = h; path = i; binders = bs; conclusion = x; stored = o } in
+    let e = env_of s g in
+    let faults = flat_map (misfits e) (terms_of g) in
+    let no_truths = flat_map (truth_misfits e) (terms_of g) in
+    let l = none_in (bound_misfits [] e.bounds) (faults ++ no_truths) fits in
+    let m = none_in faults no_truths l.1 in
+    let known : IsKnown e = record { sorts = have_sorts [] e.bounds l.0; bounded = goal_bounded s g fits; small = number_small s c } in
+    let terms = all_spellable e known (goal_numbered s g fits) (hypotheses bs) x m.0 m.1 in
     record {
-      fits = held.fits;
+      fits = goal_fits s g fits;
       name = n;
-      names = binder_names bound (bound_names s c b);
-      hyps = all_spellable (record { source = s; bounds = bound }) known (hypotheses bs) held.hyps;
-      concl = spellable (record { source = s; bounds = bound }) known x held.concl;
+      names = binder_names e.bounds (bound_names s c b);
+      hyps = terms.0;
+      concl = terms.1;
       stored = proof_stored s c p;
     }
 
-items_of_syntax : (s : Source) → AreTokens s.bytes s.tokens → {i j : ℕ} {gs : List Goal} → f.Items (terminals s) i gs j → file_misfits s gs ≡ [] → All OfSyntax (map (statement s) gs)
-items_of_syntax s c (f.no_item n) fits = All-nil OfSyntax
+items_of_syntax : (s : Source) → AreTokens s.bytes s.tokens → {i j : ℕ} {gs : List Goal} → f.Items (terminals s) i gs j → file_misfits s gs ≡ [] → All IsOfSyntax (map (statement s) gs)
+items_of_syntax s c (f.no_item n) fits = All-nil IsOfSyntax
 items_of_syntax s c (f.import_ w p rest) fits = items_of_syntax s c rest fits
 items_of_syntax s c (f.open_ w p ps rest) fits = items_of_syntax s c rest fits
 items_of_syntax s c (f.theorem_ {i} {k} {g = g} {gs} w p st rest) fits =
-    All-cons OfSyntax (statement s g) (map (statement s) gs) (goal_of_syntax s c st (theorem_name s c i k p) (none_left (goal_misfits s g) (file_misfits s gs) fits)) (items_of_syntax s c rest (none_right (goal_misfits s g) (file_misfits s gs) fits))
+    All-cons IsOfSyntax (statement s g) (map (statement s) gs) (goal_of_syntax s c st (theorem_name s c i k p) (none_left (goal_misfits s g) (file_misfits s gs) fits)) (items_of_syntax s c rest (none_right (goal_misfits s g) (file_misfits s gs) fits))
 items_of_syntax s c (f.example_ {i} {g = g} {gs} w st rest) fits =
-    All-cons OfSyntax (statement s g) (map (statement s) gs) (goal_of_syntax s c st (example_name s i) (none_left (goal_misfits s g) (file_misfits s gs) fits)) (items_of_syntax s c rest (none_right (goal_misfits s g) (file_misfits s gs) fits))
+    All-cons IsOfSyntax (statement s g) (map (statement s) gs) (goal_of_syntax s c st (example_name s i) (none_left (goal_misfits s g) (file_misfits s gs) fits)) (items_of_syntax s c rest (none_right (goal_misfits s g) (file_misfits s gs) fits))
 
-pub stated_of_syntax : (s : Source) (trees : List Goal) → AreTokens s.bytes s.tokens → f.AreGoals (terminals s) trees → file_misfits s trees ≡ [] → All OfSyntax (map (statement s) trees)
+pub stated_of_syntax : (s : Source) (trees : List Goal) → AreTokens s.bytes s.tokens → f.AreGoals (terminals s) trees → file_misfits s trees ≡ [] → All IsOfSyntax (map (statement s) trees)
 stated_of_syntax s trees c d fits = items_of_syntax s c d fits

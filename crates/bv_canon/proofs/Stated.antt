@@ -1,7 +1,8 @@
 -- The terms of the goals of a file are terms that the syntax can spell.
-use Rattle.std.proofs.Common.{◌≡◌, ◌≢◌, Bool, true, false, not, ◌&&◌, ℕ, zero, suc, ◌+◌, ◌<◌, ◌^◌, List, [], ◌∷◌, ◌++◌, length, Option, Some, None, refl, sym, subst, arith, ap, ap₂, ◌∙◌, codes}
+use Rattle.std.proofs.Common.{◌≡◌, ◌≢◌, Bool, true, false, not, ◌&&◌, ℕ, zero, suc, ◌+◌, ◌%◌, ◌<◌, ◌^◌, List, [], ◌∷◌, ◌++◌, length, Option, Some, None, refl, sym, subst, arith, ap, ap₂, ◌∙◌, codes}
 use Rattle.std.specs.Prelude.{All, slice_get, is_some, nat_lt, bytes_eq, if◌then◌else◌}
 use Rattle.std.specs.List.{list_any}
+use Rattle.std.proofs.Math.Nat.{mod-lt, one-le-pow}
 use Rattle.std.proofs.lemmas.Slice.Eq.{bytes_eq-Decides}
 use Rattle.std.proofs.lemmas.List.Elements.{All-nil, All-cons}
 use Rattle.bv_lex.specs.declared.fault.FaultKind.TheVariants as fault
@@ -120,9 +121,9 @@ written_numbers op = kept_numbers op
 abbrev pub Small : List ℕ → Type 0
 Small ns = All (λ n. n < 2 ^ 128) ns
 
--- variables have names other than `_`, and written numbers are small
+-- variables have names other than `_`, written numbers are small, and those of constants fit their widths
 abbrev pub Fine : Binders → Term → Type 0
-Fine binders (constant v) = Unit {0}
+Fine binders (constant v) = v.number < 2 ^ v.width
 Fine binders (variable k w) = name_at binders k ≢ codes "_"
 Fine binders (truth b) = Unit {0}
 Fine binders (truth_variable k) = name_at binders k ≢ codes "_"
@@ -130,6 +131,9 @@ Fine binders (unary op x) = Small (written_numbers op) × Fine binders x
 Fine binders (binary op x y) = Fine binders x × Fine binders y
 Fine binders (choice c x y) = Fine binders c × Fine binders x × Fine binders y
 Fine binders (truth_choice c x y) = Fine binders c × Fine binders x × Fine binders y
+
+number_fits : (w n : ℕ) → n % 2 ^ w < 2 ^ w
+number_fits w n = mod-lt n (one-le-pow w 2 (omega arith))
 
 no_numbers : Small []
 no_numbers = All-nil (λ n. n < 2 ^ 128)
@@ -203,7 +207,7 @@ fine_method binders m x is h g = h
 
 fine_numeral : (binders : Binders) (w n : ℕ) → n < 2 ^ 128 → FineItem binders (numeral_item w n)
 fine_numeral binders zero n h = h
-fine_numeral binders (suc w) n h = tt
+fine_numeral binders (suc w) n h = number_fits (suc w) n
 
 fine_item : (e : Env) (binders : Binders) (w : ℕ) (x : Tree) (t : Term) → ((i : ℕ) → number_at e.source i < 2 ^ 128) → Fine binders t → FineItem binders (item_of e w x t)
 fine_item e binders w (numeral i) t small h = fine_numeral binders w (number_at e.source i) (small i)
@@ -246,8 +250,8 @@ pub record IsKnown (e : Env) : Type 0 where
 mutual
   pub fine_term : (e : Env) → IsKnown e → (w : ℕ) (x : Tree) → Fine (binders_of e.bounds) (term e w x)
   fine_term e k w (name i) = fine_name e.bounds (text_at e.source i) k.sorts (variable_at e i) refl
-  fine_term e k w (numeral i) = tt
-  fine_term e k w (literal i j) = tt
+  fine_term e k w (numeral i) = number_fits w (number_at e.source i)
+  fine_term e k w (literal i j) = number_fits (number_at e.source j) (number_at e.source i)
   fine_term e k w (trees.constant c i) = fine_constant (binders_of e.bounds) c
   fine_term e k w (prefix o i x) = (prefix_numbers o, fine_term e k w x)
   fine_term e k w (infix_ o i x y) =

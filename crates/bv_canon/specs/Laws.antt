@@ -16,7 +16,7 @@ use Rattle.bv_typing.specs.Goals.{file_misfits, statement, States}
 use Rattle.bv_parse.specs.Reads.{Outlines, IsWithinLimits, ReadsAs}
 use Rattle.bv_canon.specs.Written.{term_tokens}
 use Rattle.bv_canon.specs.Lines.{goal_tokens, line_of}
-use Rattle.bv_canon.specs.Reading.{terminals, Stand, AreNamed, IsRead, IsHeld, IsOfSyntax, IsReadAlone, IsReadBack}
+use Rattle.bv_canon.specs.Reading.{terminals, Stand, AreNamed, IsRead, IsOfSyntax, IsReadAlone, IsReadBack}
 
 -- The canonical line of a goal is cut into tokens that are read as that goal alone.
 abbrev pub GoalIsReadBack : Statement → Type 0
@@ -29,12 +29,12 @@ LineStatesGoal goal tokens trees =
 
 -- Each goal that a file states is one that the syntax can spell.
 abbrev pub StatesOfSyntax : Source → List Goal → Type 0
-StatesOfSyntax s trees = AreTokens s.bytes s.tokens → AreGoals (terminals s) trees → file_misfits s trees ≡ [] → All (λ goal. IsHeld goal → IsOfSyntax goal) (map (statement s) trees)
+StatesOfSyntax s trees = AreTokens s.bytes s.tokens → AreGoals (terminals s) trees → file_misfits s trees ≡ [] → All IsOfSyntax (map (statement s) trees)
 
 -- Where a file reads as goals, and the canonical line of one of them meets no limit, the line reads as that goal alone.
 abbrev pub PrintedGoalReads : List ℕ → List Statement → Statement → Type 0
 PrintedGoalReads bytes goals goal =
-    ReadsAs bytes goals → Contains goals goal → IsHeld goal → ((tokens : List Token) (trees : List Goal) → Outlines (line_of goal) tokens trees → IsWithinLimits (line_of goal) tokens trees)
+    ReadsAs bytes goals → Contains goals goal → ((tokens : List Token) (trees : List Goal) → Outlines (line_of goal) tokens trees → IsWithinLimits (line_of goal) tokens trees)
     → ReadsAs (line_of goal) (goal ∷ [])
 
 -- A file whose tokens are those of a goal's line is read as that goal alone.

@@ -73,12 +73,6 @@ pub record IsSpellable (binders : Binders) (t : Term) : Type 0 where
   pub numbers : NumbersFit t
   pub named : All (λ v. name_at binders v.0 ≢ codes "_") (variables t)
 
--- What a goal's type keeps: it is a goal, and its terms are expressions.
-pub record IsHeld (goal : Statement) : Type 0 where
-  pub fits : IsGoal goal.binders goal.hyps goal.concl
-  pub hyps : All IsExpr goal.hyps
-  pub concl : IsExpr goal.concl
-
 -- A goal that the syntax can spell, as each one that is read from a file.
 pub record IsOfSyntax (goal : Statement) : Type 0 where
   pub fits : IsGoal goal.binders goal.hyps goal.concl

@@ -28,13 +28,14 @@ pub fn goals_are_read_back()
     ensures one { (goal : Statement) (tokens : List Token) (trees : List Goal) → LineStatesGoal goal tokens trees }
 {}
 
-/// Each goal that a file states is one that the syntax can spell, so that its canonical text is read back.
+/// Where a file's tokens are derived as goals, and these have no fault of their types, each goal that the file states is one
+/// that the syntax can spell: it is a goal, its terms are expressions, and its names, numbers and file can be written.
 pub fn files_state_goals_of_the_syntax()
     ensures { (s : Source) (trees : List Goal) → StatesOfSyntax s trees }
 {}
 
-/// A goal that was read from a file and is printed reads back: where its canonical line meets no limit, the line reads as that
-/// goal alone.
+/// A goal that was read from a file and is printed reads back: where bytes read as goals, and the canonical line of one of them
+/// meets no limit, however it is cut and derived, the line reads as that goal alone.
 pub fn printed_goals_read_back()
     ensures { (bytes : List ℕ) (goals : List Statement) (goal : Statement) → PrintedGoalReads bytes goals goal }
 {
