@@ -1,5 +1,5 @@
 -- An event that is drawn: what becomes of the list of unended goals, and that less is left to do.
-use Rattle.std.proofs.Common.{◌≡◌, ◌⊎◌, ⊎_elim, inl, inr, ℕ, zero, suc, ◌+◌, ◌<◌, ◌≤◌, ◌%◌, Bool, true, false, List, [], ◌∷◌, ◌++◌, length, set, take, drop, slice_index_or, refl, sym, ap, ◌∙◌, subst, arith, if◌then◌else◌}
+use Rattle.std.proofs.Common.{◌≡◌, ⊎_elim, inl, inr, ℕ, zero, suc, ◌+◌, ◌<◌, ◌≤◌, ◌%◌, Bool, true, false, List, [], ◌∷◌, ◌++◌, length, set, take, drop, slice_index_or, refl, sym, ap, ◌∙◌, subst, arith, if◌then◌else◌}
 use Rattle.std.proofs.lemmas.List.{get_or-set_same, get_or_read}
 use Rattle.search_learn.specs.Machine.{Machine, advance}
 use Rattle.search_learn.specs.declared.Turn.TheVariants.{More}

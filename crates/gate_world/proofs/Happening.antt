@@ -1,8 +1,8 @@
 -- Values that show worlds: at first, behind events, and at the end.
-use Rattle.std.proofs.Common.{◌≡◌, ◌≢◌, ℕ, zero, suc, ◌+◌, ◌<◌, ◌≤◌, ◌^◌, Bor, Bool, true, false, List, [], ◌∷◌, ◌++◌, length, map, replicate, take, get_or, slice_get, slice_index_or, IfSome, IfNone, Option, Some, None, refl, sym, ap, ◌∙◌, subst, arith, true≢false, All, ◌⊎◌, inl, inr}
+use Rattle.std.proofs.Common.{◌≡◌, ◌≢◌, ℕ, zero, suc, ◌+◌, ◌<◌, ◌≤◌, ◌^◌, Bor, true, List, [], ◌∷◌, ◌++◌, length, map, replicate, take, get_or, slice_get, slice_index_or, IfSome, IfNone, Option, Some, None, refl, sym, ap, ◌∙◌, subst, arith, true≢false, All, ◌⊎◌, inl, inr}
 use Rattle.std.proofs.lemmas.List.{length-map, length-replicate}
 use Rattle.std.proofs.lemmas.Grind.{take_at_read}
-use Rattle.std.proofs.lemmas.Option.{slice_get_within, slice_get-get_or, get_or_from_slice_get}
+use Rattle.std.proofs.lemmas.Option.{slice_get-get_or}
 use Rattle.gate_probe.specs.Words.{word_at}
 use Rattle.gate_probe.specs.Sound.{IsSound}
 use Rattle.bv_expr.specs.declared.goal.Goal.{Goal}

@@ -31,3 +31,5 @@ pub mod Uncut
 pub mod DrawnSo
 pub mod Shown
 pub mod Happening
+pub mod Pair
+pub mod Rows

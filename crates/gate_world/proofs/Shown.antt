@@ -1,12 +1,12 @@
 -- What becomes of a world that goals, words and tasks in memory are those of, behind an event.
-use Rattle.std.proofs.Common.{◌≡◌, ◌≢◌, ℕ, zero, suc, ◌+◌, ◌<◌, ◌≤◌, Bool, true, false, Bor, List, [], ◌∷◌, ◌++◌, length, map, replicate, set, take, drop, get_or, slice_get, slice_index_or, option_map, Option, Some, None, is_some, refl, sym, ap, ◌∙◌, subst, arith, length-set, if◌then◌else◌, ◌⊎◌, inl, inr}
+use Rattle.std.proofs.Common.{◌≡◌, ◌≢◌, ℕ, zero, suc, ◌<◌, ◌≤◌, Bool, true, false, Bor, List, [], ◌∷◌, ◌++◌, length, map, set, take, drop, get_or, slice_get, slice_index_or, option_map, Option, Some, None, is_some, refl, sym, ap, ◌∙◌, subst, arith, length-set, if◌then◌else◌, inl, inr}
 use Rattle.std.proofs.lemmas.List.{get_or-set_same, get_or-set_other, length-map, append-nil}
 use Rattle.std.proofs.lemmas.Option.{slice_get_within, slice_get_read, slice_get-map}
 use mathlib.Core.Logic.{dite}
 use native.Mathlib.Decide.{ℕ_discrete}
 use Rattle.gate_probe.specs.Sound.{IsSound, IsWithin}
 use Rattle.bv_expr.specs.declared.goal.Goal.{Goal}
-use Rattle.gate_world.specs.Work.{Problem, Work, Ended, OutOfMemory, CancelledBy, cut_off, is_false}
+use Rattle.gate_world.specs.Work.{Work, OutOfMemory, CancelledBy, cut_off, is_false}
 use Rattle.gate_world.specs.World.{Actor, Moved, World, Event, Step, Turn, Cancel, Memory, nobody, actor_at, with_work, moved, turned, put, put_work, put_moved, happens, run, begun_at, begun}
 use Rattle.gate_world.specs.Right.{AreScripted, IsRight}
 use Rattle.gate_world.specs.Drawn.{has_ended}

@@ -4,7 +4,6 @@ use Rattle.std.specs.declared.alloc.Global.{Global}
 use Rattle.std.specs.declared.vec.Vec.{Vec}
 use Rattle.gate_probe.specs.Sound.{IsSound, IsWithin}
 use Rattle.bv_expr.specs.declared.goal.Goal.{Goal}
-use Rattle.goal_reply.specs.declared.reply.Reply.TheVariants as reply
 use Rattle.goal_reply.specs.declared.reply.Outcome.{Outcome}
 use Rattle.goal_reply.specs.declared.reply.Outcome.TheVariants as outcome
 use Rattle.gate_world.specs.Work.{Problem, Work, End, Loading, Probing, Walking, Searching, Ended, OutOfMemory, CancelledBy, cut_off}

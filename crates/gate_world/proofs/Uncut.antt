@@ -1,5 +1,5 @@
 -- No event that is drawn is a cancellation, so no goal is cancelled; and the outcomes are then right.
-use Rattle.std.proofs.Common.{◌≡◌, ◌⊎◌, ⊎_elim, ℕ, zero, suc, ◌<◌, Bool, true, false, List, [], ◌∷◌, length, map, set, slice_index_or, sym, subst, arith, nat_eq, if◌then◌else◌}
+use Rattle.std.proofs.Common.{◌≡◌, ⊎_elim, ℕ, zero, suc, ◌<◌, Bool, true, false, List, [], ◌∷◌, length, map, set, slice_index_or, sym, subst, arith, nat_eq, if◌then◌else◌}
 use Rattle.gate_shape.specs.Edge.{Edge, Gate, gate_level}
 use Rattle.gate_probe.specs.Words.{word_at}
 use Rattle.gate_probe.specs.Views.{learnt}

@@ -1,16 +1,13 @@
 -- What becomes of goals whose events a generator draws.
-use Rattle.std.specs.Prelude.{◌≡◌, ◌≢◌, ◌<◌, ℕ, List, [], ◌∷◌, length}
-use Rattle.gate_probe.specs.Words.{word_at}
+use Rattle.std.specs.Prelude.{◌≡◌, ℕ, List, [], ◌∷◌}
 use Rattle.bv_expr.specs.declared.goal.Goal.{Goal}
 use Rattle.goal_reply.specs.declared.counts.GateCounts.{GateCounts}
-use Rattle.goal_reply.specs.declared.reply.Reply.{Reply}
-use Rattle.goal_reply.specs.declared.reply.Reply.TheVariants as reply
 use Rattle.goal_reply.specs.declared.reply.Outcome.{Outcome}
 use Rattle.goal_reply.specs.declared.reply.Outcome.TheVariants as outcome
 use Rattle.goal_alone.specs.Alone.{alone}
 use Rattle.goal_alone.specs.Told.{IsAnswer}
 use Rattle.gate_world.specs.Work.{End, Ended}
-use Rattle.gate_world.specs.World.{Event, Actor, World, begun, run}
+use Rattle.gate_world.specs.World.{Event, Actor, begun, run}
 use Rattle.gate_world.specs.Counted.{gates_in_cones, distinct_gates}
 use Rattle.gate_world.specs.Drawn.{generator, AreDrawn}
 use Rattle.gate_world.specs.Solving.{IsOutcomeOf, IsOutcomeBacked, IsBacked}

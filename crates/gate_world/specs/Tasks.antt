@@ -1,6 +1,5 @@
 -- What a goal has in hand in code, whichever work that is, and what becomes of it by an event.
 use Rattle.std.specs.Prelude.{◌≡◌, ◌≤◌, ℕ, List, [], length, Option, Some, None, if◌then◌else◌}
-use Rattle.gate_shape.specs.Edge.{Edge}
 use Rattle.gate_probe.specs.Sound.{IsSound, IsWithin}
 use Rattle.gate_probe.specs.declared.prober.Move.{Move}
 use Rattle.gate_probe.specs.declared.prober.Move.TheVariants.{Load, Claim, Found, Full}
@@ -9,7 +8,7 @@ use Rattle.goal_reply.specs.declared.reply.Reply.TheVariants as reply
 use Rattle.goal_reply.specs.declared.reply.Outcome.{Outcome}
 use Rattle.goal_reply.specs.declared.reply.Outcome.TheVariants as outcome
 use Rattle.goal_alone.specs.Alone.{Deep}
-use Rattle.gate_world.specs.Work.{Problem, Work, End, Loading, Probing, Walking, Searching, Ended, Replied, NoRoom, cone_of, to_walk}
+use Rattle.gate_world.specs.Work.{Problem, Work, Loading, Probing, Walking, Searching, Ended, Replied, NoRoom, cone_of, to_walk}
 use Rattle.gate_world.specs.World.{Actor, moved, turned, with_work}
 use Rattle.gate_world.specs.Right.{IsScripted}
 use Rattle.gate_world.specs.Doing.{IsDoing}
@@ -19,7 +18,6 @@ use Rattle.gate_world.specs.Cone.{ShowsWalk, ShowsWalked, HasBuilt, AreNodesOf}
 use Rattle.gate_world.specs.Solving.{ShowsSearch, IsOutcomeOf, IsOutcomeBacked}
 use Rattle.gate_world.specs.declared.build.Stage.{Stage}
 use Rattle.gate_world.specs.declared.build.Stage.TheVariants as stage
-use Rattle.gate_world.specs.declared.build.Building.{Building}
 use Rattle.gate_world.specs.declared.build.Work.{Work as CodeWork}
 use Rattle.gate_world.specs.declared.build.Work.TheVariants as code
 use Rattle.gate_world.specs.declared.walk.Walked.{Walked}

@@ -53,6 +53,7 @@ impl<'a> World<'a> {
         requires budget { budget ≤ 2 ^ 62 }
         ensures goals { IfOk result (λ world. goals_of world ≡ goals.now) }
         ensures begun { IfOk result (λ world. Shows world (begun_world (problems_of goals.now) words budget)) }
+        ensures scripted { IfOk result (λ world. AreScripted (problems_of (goals_of world))) }
     {
         let mut lent = Vec::new(alloc);
         for goal in goals {

@@ -1,4 +1,4 @@
-use Rattle.std.proofs.Common.{◌≡◌, Some, length, set, slice_get, refl, sym, ap, ◌∙◌, subst, arith}
+use Rattle.std.proofs.Common.{◌≡◌, Some, length, set, slice_get, refl, sym, ap, ◌∙◌, subst}
 use Rattle.gate_world.specs.World.{Step, actor_at}
 use Rattle.gate_world.specs.Tasks.{IsTask}
 use Rattle.gate_world.specs.Reached.{IsWorld, StepsTo}

@@ -22,4 +22,5 @@ returns c =
     record {
       goals = if_ok c.over.result _ _ (λ w e. e ∙ all) c.over.ensures.goals;
       begun = if_ok c.over.result _ _ (λ w h. subst (λ gs. Shows w (begun (problems_of gs) c.args.words c.args.budget)) all h) c.over.ensures.begun;
+      scripted = c.over.ensures.scripted;
     }
