@@ -1,3 +1,1 @@
 example : 5#8 + 251#8 = 0#8 := by bv_decide
-
-theorem f (a : Bool) : a = true := by bv_decide

@@ -47,7 +47,7 @@ pub record Line : Type 0 where
   pub certificate : List ℕ
   pub told : Told
 
--- what became of a file: it isn't there, it is too long, it is sound but its goals can't be read yet, it has a fault, or its goals have these lines
+-- what became of a file: it isn't there, it is too long, it has a fault, or its goals have these lines
 pub data Found : Type 0 where
   Absent : Found
   TooLong : Found

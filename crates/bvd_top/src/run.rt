@@ -165,7 +165,7 @@ fn end<K: Keeper, S: Sink>(alloc: Global, words: &[String], keeper: &mut K, out:
 /// | 4 | exactly where a file is absent, too long or faulty, or a certificate is absent |
 /// | 5 | exactly where a schedule's table had no room for a goal |
 /// | 6 | exactly where the keeper's or the sink's count of faults rose in this call, or stood at its end |
-/// | 7 | for want of memory, and for no other cause |
+/// | 7 | for want of memory, the one free answer |
 ///
 /// The greatest that applies is answered, but a device that fails ends the run at once with 6, and then nothing more is
 /// asked of either device. What is told is always a beginning of the report, and one that is told whole is answered by
