@@ -27,6 +27,7 @@ struct Ran {
     report: Vec<u8>,
     first: Option<Vec<u8>>,
     second: Option<Vec<u8>>,
+    third: Option<Vec<u8>>,
 }
 
 /// A file: its name and its bytes.
@@ -60,6 +61,7 @@ fn run_over(
         report: out.written().to_vec(alloc)?,
         first: kept(alloc, &keeper, "goal-1.lrat")?,
         second: kept(alloc, &keeper, "goal-2.lrat")?,
+        third: kept(alloc, &keeper, "goal-3.lrat")?,
     })
 }
 
@@ -116,7 +118,19 @@ const ASSOCIATIVE: &[u8] =
 
 #[test]
 fn searches_tell_their_answers(rt: HostRuntime) {
-    let rows: [Told<'_>; 10] = [
+    let rows: [Told<'_>; 12] = [
+        (
+            &PROVE,
+            b"",
+            0,
+            b"file a.lean\ngoals: 0 proved, 0 false, 0 other\n",
+        ),
+        (
+            &PROVE,
+            b"example : 12#4 &&& 10#4 = 9#4 := by bv_decide",
+            1,
+            b"file a.lean\n1. example: false\ngoals: 0 proved, 1 false, 0 other\n",
+        ),
         (
             &PROVE,
             SUM,
@@ -185,7 +199,7 @@ fn searches_tell_their_answers(rt: HostRuntime) {
 
 #[test]
 fn faults_clauses_and_goals_are_told(rt: HostRuntime) {
-    let rows: [Told<'_>; 8] = [
+    let rows: [Told<'_>; 12] = [
         (
             &PROVE,
             b"theorem",
@@ -197,6 +211,24 @@ fn faults_clauses_and_goals_are_told(rt: HostRuntime) {
             b"/- a /- b -/",
             4,
             b"file a.lean: lex 1:1\ngoals: 0 proved, 0 false, 0 other\n",
+        ),
+        (
+            &PROVE,
+            b"theorem c (a b c : Bool) : a = b = c := by bv_decide",
+            4,
+            b"file a.lean: syntax 1:34\ngoals: 0 proved, 0 false, 0 other\n",
+        ),
+        (
+            &PROVE,
+            b"example : 1 = 1 := by bv_decide",
+            4,
+            b"file a.lean: type 1:13\ngoals: 0 proved, 0 false, 0 other\n",
+        ),
+        (
+            &PROVE,
+            b"example : 1 = $ := by bv_decide",
+            4,
+            b"file a.lean: lex 1:15\ngoals: 0 proved, 0 false, 0 other\n",
         ),
         (
             &PROVE,
@@ -215,6 +247,12 @@ fn faults_clauses_and_goals_are_told(rt: HostRuntime) {
             EQUAL,
             0,
             b"c 1 n\np cnf 6 11\n1 0\n-4 2 0\n-4 3 0\n4 -2 -3 0\n-5 -2 0\n-5 -3 0\n5 2 3 0\n-6 -4 0\n-6 -5 0\n6 4 5 0\n6 0\n",
+        ),
+        (
+            &["cnf", "a.lean"],
+            b"theorem f (a : Bool) : a = true := by bv_decide",
+            0,
+            b"c 1 f\np cnf 2 2\n1 0\n-2 0\n",
         ),
         (
             &["show", "a.lean"],
@@ -312,6 +350,56 @@ fn goals_on_vectors_are_told(rt: HostRuntime) {
     assert!(rt; ran.first.is_some_and(|text| text.as_slice() == CERTIFICATE));
 }
 
+/// Whether both files are there, with the same bytes.
+fn are_same(file: &Option<Vec<u8>>, other: &Option<Vec<u8>>) -> bool {
+    match (file, other) {
+        (Some(file), Some(other)) => file.as_slice() == other.as_slice(),
+        _ => false,
+    }
+}
+
+/// Whether the report is the other with one line more, of gates.
+fn adds_gates(report: &[u8], other: &[u8]) -> bool {
+    match report.strip_prefix(other) {
+        Some(rest) => match rest.split_last() {
+            Some((last, line)) => *last == b'\n'
+                && line.starts_with(b"gates: ")
+                && !line.contains(&b'\n'),
+            None => false,
+        },
+        None => false,
+    }
+}
+
+#[test]
+fn every_schedule_tells_what_each_goal_is_told_alone(rt: HostRuntime) {
+    let words = ["alone", "a.lean"];
+    let alone = run(rt.alloc(), &words, Some(MASKS), NOTHING_FAILS).expect(&rt, "memory");
+    let words = ["schedule", "--seed", "1", "--table", "4096", "a.lean"];
+    let of_seed_one = run(rt.alloc(), &words, Some(MASKS), NOTHING_FAILS).expect(&rt, "memory");
+    for seed in 1..=200u32 {
+        let number = format!(in rt.alloc(); "{seed}").expect(&rt, "memory");
+        let words = [
+            "schedule",
+            "--seed",
+            number.as_str(),
+            "--table",
+            "4096",
+            "a.lean",
+        ];
+        let ran = run(rt.alloc(), &words, Some(MASKS), NOTHING_FAILS).expect(&rt, "memory");
+        assert_eq!(rt; ran.status, alone.status, "at {seed}");
+        assert!(rt; adds_gates(&ran.report, &alone.report), "at {seed}");
+        assert!(rt;
+            ran.report.as_slice() == of_seed_one.report.as_slice(),
+            "at {seed}"
+        );
+        assert!(rt; are_same(&ran.first, &alone.first), "at {seed}");
+        assert!(rt; are_same(&ran.second, &alone.second), "at {seed}");
+        assert!(rt; are_same(&ran.third, &alone.third), "at {seed}");
+    }
+}
+
 #[test]
 fn failing_devices_leave_what_was_done_before(rt: HostRuntime) {
     // Which call of a kind fails; the status; how many bytes are told, and how many of each certificate are there.
@@ -338,29 +426,35 @@ fn failing_devices_leave_what_was_done_before(rt: HostRuntime) {
 
 #[test]
 fn goals_are_numbered_through_all_files(rt: HostRuntime) {
-    let rows: [(&str, &[File<'_>], u8, &[u8]); 2] = [
+    let two: [File<'_>; 2] = [
+        ("a.lean", EQUAL),
         (
-            "alone",
-            &[
-                ("a.lean", EQUAL),
-                (
-                    "b.lean",
-                    b"theorem m (p q : Bool) : p = q := by bv_decide\n",
-                ),
-            ],
+            "b.lean",
+            b"theorem m (p q : Bool) : p = q := by bv_decide\n",
+        ),
+    ];
+    let rows: [(&[&str], &[File<'_>], u8, &[u8]); 3] = [
+        (
+            &["alone", "a.lean", "b.lean"],
+            &two,
             1,
             b"file a.lean\n1. n: false a = false, b = true\nfile b.lean\n2. m: false p = false, q = true\ngoals: 0 proved, 2 false, 0 other\n",
         ),
         (
-            "prove",
+            &["schedule", "--seed", "1", "a.lean", "b.lean"],
+            &two,
+            1,
+            b"file a.lean\n1. n: false a = false, b = true\nfile b.lean\n2. m: false p = false, q = true\ngoals: 0 proved, 2 false, 0 other\ngates: 6 in cones, 3 distinct\n",
+        ),
+        (
+            &["prove", "a.lean", "b.lean"],
             &[("a.lean", SUM)],
             4,
             b"file a.lean\n1. example: proved goal-1.lrat\nfile b.lean: absent\ngoals: 1 proved, 0 false, 0 other\n",
         ),
     ];
-    for (command, files, status, report) in rows {
-        let words: [&str; 3] = [command, "a.lean", "b.lean"];
-        let ran = run_over(rt.alloc(), &words, files, NOTHING_FAILS).expect(&rt, "memory");
+    for (words, files, status, report) in rows {
+        let ran = run_over(rt.alloc(), words, files, NOTHING_FAILS).expect(&rt, "memory");
         assert_eq!(rt; ran.status, status);
         assert!(rt; ran.report.as_slice() == report);
     }
