@@ -1,5 +1,5 @@
 -- The terminals of a file give the pieces of its goals.
-use Rattle.std.proofs.Common.{◌≡◌, ℕ, ◌+◌, ◌<◌, arith, List, [], ◌∷◌, ◌++◌, length, Option, Some, None, refl, sym, ap, subst, ◌∙◌, inl, inr, append_assoc, append-nil}
+use Rattle.std.proofs.Common.{◌≡◌, ℕ, ◌+◌, ◌<◌, arith, List, [], ◌∷◌, ◌++◌, length, Option, Some, None, refl, sym, ap, ◌∙◌, inl, inr, append_assoc, append-nil}
 use Rattle.std.specs.Prelude.{slice_get}
 use Rattle.std.proofs.lemmas.Option.{slice_get_within}
 use Rattle.bv_grammar.specs.declared.words.Word.TheVariants as words
@@ -10,9 +10,7 @@ use Rattle.bv_grammar.specs.declared.reading.Taken.{Taken}
 use Rattle.bv_grammar.specs.Grammar.{terminal_of, Symbol, terminal, word, finish, items, path, dotted, paths, part, binders, names, brace_names, bound, sort, proof, intro, separator, tactic, term, file}
 use Rattle.bv_grammar.specs.Grammar as g
 use Rattle.bv_grammar.specs.Derivation.{Derives, here}
-use Rattle.bv_grammar.specs.declared.reading.End.{End}
-use Rattle.bv_grammar.specs.declared.reading.End.TheVariants as ends
-use Rattle.bv_grammar.specs.Taking.{IsTakenAs, AreTaken, EndsAt}
+use Rattle.bv_grammar.specs.Taking.{IsTakenAs, AreTaken}
 use Rattle.bv_grammar.proofs.Derivations.{follow}
 use Rattle.bv_trees.specs.declared.pieces.Sort.{Sort}
 use Rattle.bv_trees.specs.declared.pieces.Piece.{Piece}
@@ -22,12 +20,11 @@ use Rattle.bv_trees.specs.Trees.{Tree, Binder, Goal}
 use Rattle.bv_trees.specs.Terms.{IsWord, SortAt, Term}
 use Rattle.bv_trees.specs.Files as f
 use Rattle.bv_trees.specs.Files.{PartAt, Path, Dotted, Paths, Names, Bound, Binders, Intros, Separator, Tactic, Proof, Statement, Items, AreGoals}
-use Rattle.bv_trees.specs.Codes.{pieces, binder_pieces, goal_pieces, ArePieces}
+use Rattle.bv_trees.specs.Codes.{pieces, binder_pieces, goal_pieces}
 use Rattle.bv_trees.specs.Building as b
 use Rattle.bv_trees.specs.Building.{Building, head_ends, role_of, run, put, bind, sort_behind, close}
 use Rattle.bv_trees.proofs.Unique.{term_is_no_sort}
 use Rattle.bv_trees.proofs.Derived.{by_sort, by_term, by_path, by_paths, by_part, by_names, by_brace_names, by_bound, by_binders, by_intros, by_the_rest}
-use Rattle.bv_trees.proofs.Whole.{has_goals}
 use Rattle.bv_trees.proofs.Settling.{st, left_quiet}
 use Rattle.bv_trees.proofs.OfTerms.{AllTaken, takes, on, past, taken_as, on_complete, not_there, sort_run, sort_told, term_run}
 
@@ -254,9 +251,3 @@ pub put_together : (xs : List Taken) (ts : List Terminal) (gs : List Goal) → A
 put_together xs ts gs h taken all =
     let r = items_run [] (all_taken ts xs taken (whole_reach ts xs all)) h here (record { names = 0; stands = refl }) in
     ap (λ n. (run xs n).pieces) all ∙ ap (λ s. s.pieces) r.stands
-
-pub whole_outline : (ts : List Terminal) (xs xs' : List Taken) (n : ℕ) (end : End) (ps : List Piece) → AreTaken ts xs → EndsAt ts n end → end ≡ ends.Whole → n ≡ length xs → xs' ≡ xs → ArePieces xs' ps → (gs : List Goal) × AreGoals ts gs × (ps ≡ goal_pieces gs)
-whole_outline ts xs xs' n end ps taken h e m same all =
-    let h1 : EndsAt ts n ends.Whole = subst (λ w. EndsAt ts n w) e h in
-    let r = has_goals ts h1.1 in
-    (r.0, r.1, all ts r.0 r.1 (subst (λ w. AreTaken ts w) (sym same) taken) (ap length same ∙ sym m ∙ h1.0))

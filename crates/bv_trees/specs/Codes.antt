@@ -2,11 +2,8 @@
 use Rattle.std.specs.Prelude.{◌≡◌, List, [], ◌∷◌, ◌++◌, length}
 use Rattle.bv_grammar.specs.declared.words.Terminal.{Terminal}
 use Rattle.bv_grammar.specs.declared.reading.Taken.{Taken}
-use Rattle.bv_grammar.specs.Derivation.{IsSyntaxFault}
 use Rattle.bv_grammar.specs.Taking.{AreTaken}
 use Rattle.bv_trees.specs.Files.{AreGoals}
-use Rattle.bv_trees.specs.declared.outline.Outline.{Outline}
-use Rattle.bv_trees.specs.declared.outline.Outline.TheVariants.{Goals, Fault}
 use Rattle.bv_trees.specs.declared.pieces.Piece.{Piece}
 use Rattle.bv_trees.specs.declared.pieces.Piece.TheVariants as piece
 use Rattle.bv_trees.specs.Trees.{Tree, Trees, name, numeral, literal, constant, prefix, infix_, choice, method, ascribed, no_more, and, Binder, variables, hypothesis, Goal}
@@ -41,8 +38,3 @@ goal_pieces (g ∷ gs) = piece.Goal g.head g.path ∷ (binder_pieces g.binders +
 -- what the pieces of a file are, where its terminals are taken so
 abbrev pub ArePieces : List Taken → List Piece → Type 0
 ArePieces xs ps = (ts : List Terminal) (gs : List Goal) → AreGoals ts gs → AreTaken ts xs → length xs ≡ length ts → ps ≡ goal_pieces gs
-
--- the file has goals with these pieces, or its syntax fault stands there
-abbrev pub IsOutline : List Terminal → Outline → Type 0
-IsOutline ts (Goals ps) = (gs : List Goal) × AreGoals ts gs × (ps.items ≡ goal_pieces gs)
-IsOutline ts (Fault at) = IsSyntaxFault ts at

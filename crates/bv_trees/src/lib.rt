@@ -9,7 +9,7 @@ mod outline;
 mod pieces;
 
 pub use laws::whole_files_have_one_reading;
-pub use outline::{Outline, complete_pieces, goal_pieces, read_outline};
+pub use outline::{complete_pieces, goal_pieces};
 pub use pieces::{Piece, Sort};
 
 #[cfg(test)]

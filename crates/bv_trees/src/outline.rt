@@ -1,39 +1,14 @@
 //! The pieces of a file's goals, from what its terminals are taken as.
 
-ghost use Rattle.std.specs.Prelude.{◌≡◌, IfOk, List, length, slice_get, vec_len};
-ghost use Rattle.bv_grammar.specs.declared.words.Terminal.{Terminal};
-ghost use Rattle.bv_grammar.specs.Derivation.{IsSyntaxFault};
-ghost use Rattle.bv_trees.specs.Trees.{Goal};
-ghost use Rattle.bv_trees.specs.Files.{AreGoals};
-ghost use Rattle.bv_trees.specs.Codes.{ArePieces, IsOutline};
+ghost use Rattle.std.specs.Prelude.{◌≡◌, IfOk, length, slice_get};
+ghost use Rattle.bv_trees.specs.Codes.{ArePieces};
 ghost use Rattle.bv_trees.specs.Complete.{ArePiecesBefore};
 ghost use Rattle.bv_trees.specs.Building as spec;
 
 use crate::building::Builder;
 use crate::pieces::Piece;
-use bv_grammar::{End, Reading, Role, Taken, Terminal, read};
+use bv_grammar::{Role, Taken};
 use std::alloc::{AllocError, Global};
-
-/// What a file is.
-#[derive(Drop, Debug)]
-pub enum Outline {
-    /// It is whole, with these pieces of its goals.
-    Goals(Vec<Piece>),
-    /// Its syntax fault stands at this place.
-    Fault(usize),
-}
-
-/// The pieces of the goals of a file, or the place of its syntax fault. The error is want of memory alone. The time is
-/// linear in the number of terminals, and nothing recurses.
-pub fn read_outline(alloc: Global, terminals: &[Terminal]) -> Result<Outline, AllocError>
-    ensures { IfOk result (λ r. IsOutline terminals.now r) }
-{
-    let Reading { taken, end } = read(alloc, terminals)?;
-    match end {
-        End::Whole => Ok(Outline::Goals(goal_pieces(alloc, &taken)?)),
-        End::Fault => Ok(Outline::Fault(taken.len())),
-    }
-}
 
 /// The pieces of the goals of a file whose terminals are taken so, where it is derived whole. The error is want of memory
 /// alone. The time is linear in the number of terminals, and nothing recurses.

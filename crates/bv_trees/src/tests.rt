@@ -1,7 +1,8 @@
 //! Files as pieces of their goals.
 
-use crate::{Outline, Piece, Sort, read_outline, whole_files_have_one_reading};
-use bv_grammar::{Terminal, Word};
+use crate::{Piece, Sort, complete_pieces, goal_pieces, whole_files_have_one_reading};
+use bv_grammar::{End, Reading, Terminal, Word, read};
+use std::alloc::AllocError;
 
 const THEOREM: Terminal = Terminal::Word(Word::Theorem);
 
@@ -158,11 +159,30 @@ const WHOLE: [(&[Terminal], &[Piece]); 5] = [
     ),
 ];
 
-/// A file, and the place of its syntax fault.
-const FAULTY: [(&[Terminal], usize); 2] = [
-    (&[THEOREM], 1),
+/// A file with a syntax fault, and the pieces of what is complete before it.
+const CUT: [(&[Terminal], &[Piece]); 3] = [
+    (&[THEOREM], &[]),
     // example : a = b = c
-    (&[EXAMPLE, COLON, NAME, EQUAL, NAME, EQUAL, NAME], 5),
+    (
+        &[EXAMPLE, COLON, NAME, EQUAL, NAME, EQUAL, NAME],
+        &[
+            Piece::Goal(0, 1),
+            Piece::Name(2),
+            Piece::Name(4),
+            Piece::Infix(Word::Equal, 3),
+        ],
+    ),
+    // example : if a - -b :=
+    (
+        &[EXAMPLE, COLON, IF, NAME, MINUS, MINUS, NAME, ASSIGN],
+        &[
+            Piece::Goal(0, 1),
+            Piece::Name(3),
+            Piece::Name(6),
+            Piece::Prefix(Word::Minus, 5),
+            Piece::Infix(Word::Minus, 4),
+        ],
+    ),
 ];
 
 /// Whether these are the pieces.
@@ -175,22 +195,22 @@ fn are_pieces(found: &[Piece], wanted: &[Piece]) -> bool {
 }
 
 #[test]
-fn files_are_pieces_or_faults(rt: HostRuntime) {
+fn whole_files_are_pieces(rt: HostRuntime) -> Result<(), AllocError> {
     whole_files_have_one_reading();
     for (terminals, wanted) in &WHOLE {
-        match read_outline(rt.alloc(), terminals) {
-            Ok(Outline::Goals(pieces)) => {
-                assert!(rt; are_pieces(&pieces, wanted));
-            }
-            _ => panic!(rt; "no goals"),
-        }
+        let Reading { taken, end } = read(rt.alloc(), terminals)?;
+        assert_eq!(rt; end, End::Whole);
+        assert!(rt; are_pieces(&goal_pieces(rt.alloc(), &taken)?, wanted));
     }
-    for (terminals, wanted) in &FAULTY {
-        match read_outline(rt.alloc(), terminals) {
-            Ok(Outline::Fault(at)) => {
-                assert_eq!(rt; at, *wanted);
-            }
-            _ => panic!(rt; "no fault"),
-        }
+    Ok(())
+}
+
+#[test]
+fn what_is_complete_before_a_fault_is_pieces(rt: HostRuntime) -> Result<(), AllocError> {
+    for (terminals, wanted) in &CUT {
+        let Reading { taken, end } = read(rt.alloc(), terminals)?;
+        assert_eq!(rt; end, End::Fault);
+        assert!(rt; are_pieces(&complete_pieces(rt.alloc(), &taken)?, wanted));
     }
+    Ok(())
 }
