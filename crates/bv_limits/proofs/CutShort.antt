@@ -18,10 +18,10 @@ use Rattle.bv_limits.specs.Deep.{HasDeep, AnyDeep}
 use Rattle.bv_limits.specs.Measuring.{top, put, place_of, least_of, note, step, Measure, start, tell, measure}
 use Rattle.bv_limits.specs.Choosing as choosing
 use Rattle.bv_limits.specs.Limits as l
-use Rattle.bv_limits.specs.Limits.{IsCountedLimit, IsLimit, IsBefore, IsFirstCounted}
+use Rattle.bv_limits.specs.Limits.{IsCountedLimit, IsLimit, IsBefore}
 use Rattle.bv_limits.specs.Files.{IsLeast}
 use Rattle.bv_limits.proofs.Measured.{mk, measure-append, noted, measured, least_noted, least_there, first_deep}
-use Rattle.bv_limits.proofs.Sooner.{Both, sooner_least, counted_least, at_or_behind}
+use Rattle.bv_limits.proofs.Sooner.{Both, sooner_least, at_or_behind}
 use Rattle.bv_trees.proofs.Reached.{complete_reached}
 
 -- further pieces only lower the least place
@@ -96,7 +96,7 @@ both_kinds tokens ts end = (λ w k h. l.counted h, put_deep, split)
     split w k (l.counted h) = inl h
     split w k (l.deep {j = j} {x = x} h w' m) = inr (refl, (x, j, h, w', m))
 
-pub limit_least : (tokens : List Token) (ts : List Terminal) (end : ℕ) (ps : List Piece) (m n o : Option Met) (found : Option ℕ) → IsSyntaxFault ts end → IsFirstCounted tokens ts end m → AreCompleted ts ps → found ≡ (measure ps start).least → n ≡ choosing.depth found → o ≡ choosing.sooner m n
+pub limit_least : (tokens : List Token) (ts : List Terminal) (end : ℕ) (ps : List Piece) (m n o : Option Met) (found : Option ℕ) → IsSyntaxFault ts end → IsLeast (IsCountedLimit tokens ts end) m → AreCompleted ts ps → found ≡ (measure ps start).least → n ≡ choosing.depth found → o ≡ choosing.sooner m n
     → IsLeast (IsLimit tokens ts end) o
 limit_least tokens ts end ps m n o found f g a e h q = subst (λ w. IsLeast (IsLimit tokens ts end) w) (sym (q ∙ ap (choosing.sooner m) h))
-    (sooner_least (IsCountedLimit tokens ts end) (IsDeepBefore ts end) (IsLimit tokens ts end) (both_kinds tokens ts end) m (choosing.depth found) (counted_least tokens ts end m g) (deep_least ts end ps found f a e))
+    (sooner_least (IsCountedLimit tokens ts end) (IsDeepBefore ts end) (IsLimit tokens ts end) (both_kinds tokens ts end) m (choosing.depth found) g (deep_least ts end ps found f a e))

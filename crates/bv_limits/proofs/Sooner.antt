@@ -7,7 +7,7 @@ use Rattle.bv_lex.specs.declared.fault.What.TheVariants as what
 use Rattle.bv_grammar.specs.declared.words.Terminal.{Terminal}
 use Rattle.bv_trees.specs.Trees.{Tree, Goal}
 use Rattle.bv_limits.specs.declared.plain.Met.{Met}
-use Rattle.bv_limits.specs.Limits.{rank, IsBefore, IsCountedLimit, IsFirstCounted}
+use Rattle.bv_limits.specs.Limits.{rank, IsBefore, IsCountedLimit}
 use Rattle.bv_limits.specs.Deep.{AnyDeep, IsFirstDeep, terms_of}
 use Rattle.bv_limits.specs.Choosing.{is_before, sooner, depth}
 use Rattle.bv_limits.specs.Files.{IsLeast, IsMetIn, counted, deep}
@@ -77,10 +77,6 @@ deep_least xs (Some at) f = ((refl, f.0), all)
     all : (w : What) (k : ℕ) → IsDeep xs w k → IsBefore at what.Depth k w
     all w k (e, h) = subst (λ v. IsBefore at what.Depth k v) (sym e) (at_or_behind at k (f.1 k h))
 
-pub counted_least : (tokens : List Token) (ts : List Terminal) (end : ℕ) (o : Option Met) → IsFirstCounted tokens ts end o → IsLeast (IsCountedLimit tokens ts end) o
-counted_least tokens ts end None f = f
-counted_least tokens ts end (Some m) f = f
-
 both_kinds : (tokens : List Token) (ts : List Terminal) (gs : List Goal) → Both (IsCountedLimit tokens ts (length ts)) (IsDeep (terms_of gs)) (IsMetIn tokens ts gs)
 both_kinds tokens ts gs = (λ w k h. counted h, put, split)
   where
@@ -91,10 +87,10 @@ both_kinds tokens ts gs = (λ w k h. counted h, put, split)
     split w k (counted h) = inl h
     split w k (deep h) = inr (refl, h)
 
-pub met_least : (tokens : List Token) (ts : List Terminal) (gs : List Goal) (m n o : Option Met) (found : Option ℕ) → IsFirstCounted tokens ts (length ts) m → IsFirstDeep (terms_of gs) found → n ≡ depth found → o ≡ sooner m n
+pub met_least : (tokens : List Token) (ts : List Terminal) (gs : List Goal) (m n o : Option Met) (found : Option ℕ) → IsLeast (IsCountedLimit tokens ts (length ts)) m → IsFirstDeep (terms_of gs) found → n ≡ depth found → o ≡ sooner m n
     → IsLeast (IsMetIn tokens ts gs) o
 met_least tokens ts gs m n o found f g e h = subst (λ x. IsLeast (IsMetIn tokens ts gs) x) (sym (h ∙ ap (sooner m) e))
-    (sooner_least (IsCountedLimit tokens ts (length ts)) (IsDeep (terms_of gs)) (IsMetIn tokens ts gs) (both_kinds tokens ts gs) m (depth found) (counted_least tokens ts (length ts) m f) (deep_least (terms_of gs) found g))
+    (sooner_least (IsCountedLimit tokens ts (length ts)) (IsDeep (terms_of gs)) (IsMetIn tokens ts gs) (both_kinds tokens ts gs) m (depth found) f (deep_least (terms_of gs) found g))
 
 pub one_least : (p : What → ℕ → Type 0) (m n : Met) → IsLeast p (Some m) → IsLeast p (Some n) → m ≡ n
 one_least p m n f g =

@@ -14,7 +14,8 @@ use Rattle.bv_grammar.specs.Taking.{AreTaken}
 use Rattle.bv_limits.specs.declared.plain.Met.{Met}
 use Rattle.bv_limits.specs.Roles.{IsRole, IsHead}
 use Rattle.bv_limits.specs.Counts.{Count}
-use Rattle.bv_limits.specs.Limits.{IsNoWidth, IsPlainLimit, width, nested, nodes, goals, rank, IsBefore, IsFirstPlain}
+use Rattle.bv_limits.specs.Limits.{IsNoWidth, IsPlainLimit, width, nested, nodes, goals, rank, IsBefore}
+use Rattle.bv_limits.specs.Files.{IsLeast}
 use Rattle.bv_limits.specs.Counting.{limit_there, counters, is_head, is_term_token, is_width, is_wide, is_wide_kind, is_full, limit_at}
 use Rattle.bv_limits.specs.Answers.{IsFirstOf}
 use Rattle.bv_limits.proofs.Counted.{Here, here, role_is, head_of, head_true, term_true, term_of, heads_counted, one_count, nodes_counted, nodes_are}
@@ -163,6 +164,6 @@ before_all tokens ts xs m a h w at p =
       ]
     ]
 
-pub first_plain : (tokens : List Token) (ts : List Terminal) (xs : List Taken) (o : Option Met) → AreTaken ts xs → IsFirstOf tokens xs o → IsFirstPlain tokens ts (length xs) o
+pub first_plain : (tokens : List Token) (ts : List Terminal) (xs : List Taken) (o : Option Met) → AreTaken ts xs → IsFirstOf tokens xs o → IsLeast (IsPlainLimit tokens ts (length xs)) o
 first_plain tokens ts xs (Some m) a h = (met tokens ts xs m.at m.what a h.0 h.1, before_all tokens ts xs m a h)
 first_plain tokens ts xs None a h = λ w at p. let f = found tokens ts xs at w a p in none_some (h at f.0) f.1.1

@@ -1,5 +1,5 @@
--- The limits that a file meets, and the one fault of a file that isn't read.
-use Rattle.std.specs.Prelude.{◌≡◌, ℕ, ◌<◌, ◌≤◌, List, length, Option, Some, None, slice_get, ◌⊎◌}
+-- The limits that the first terminals of a file meet, and the order in which they are answered.
+use Rattle.std.specs.Prelude.{◌≡◌, ℕ, ◌<◌, ◌≤◌, List, Option, Some, None, slice_get, ◌⊎◌}
 use Rattle.bv_lex.specs.declared.token.Token.{Token}
 use Rattle.bv_lex.specs.declared.token.TokenKind.TheVariants.{Numeral}
 use Rattle.bv_lex.specs.declared.fault.What.{What}
@@ -8,11 +8,9 @@ use Rattle.bv_grammar.specs.declared.words.Terminal.{Terminal}
 use Rattle.bv_grammar.specs.declared.words.Role.TheVariants as roles
 use Rattle.bv_grammar.specs.Grammar.{Symbol}
 use Rattle.bv_grammar.specs.declared.words.Role.{Role}
-use Rattle.bv_grammar.specs.Derivation.{IsFile, IsSyntaxFault}
 use Rattle.bv_grammar.specs.Taking.{IsTakenAs, waiting}
 use Rattle.bv_trees.specs.Trees.{Tree}
 use Rattle.bv_trees.specs.Complete.{Complete}
-use Rattle.bv_limits.specs.declared.plain.Met.{Met}
 use Rattle.bv_limits.specs.Roles.{IsRole, IsHead, IsTermToken, IsVariable}
 use Rattle.bv_limits.specs.Counts.{Count}
 use Rattle.bv_limits.specs.Depths.{depth}
@@ -69,33 +67,7 @@ rank what.Goals = 5
 abbrev pub IsBefore : ℕ → What → ℕ → What → Type 0
 IsBefore at w at' w' = (at < at') ⊎ ((at ≡ at') × (rank w ≤ rank w'))
 
--- the first terminals that are reached: all, or those before the syntax fault
-pub data Reaches (ts : List Terminal) (end : ℕ) : Type 0 where
-  whole : end ≡ length ts → IsFile ts → Reaches ts end
-  faulty : IsSyntaxFault ts end → Reaches ts end
-
--- the limit that is answered: the least
-pub record IsFirstLimit (tokens : List Token) (ts : List Terminal) (w : What) (at : ℕ) : Type 0 where
-  pub end : ℕ
-  pub reaches : Reaches ts end
-  pub limit : IsLimit tokens ts end w at
-  pub first : (w' : What) (at' : ℕ) → IsLimit tokens ts end w' at' → IsBefore at w at' w'
-
--- no limit is met
-abbrev pub IsWithinLimits : List Token → List Terminal → Type 0
-IsWithinLimits tokens ts = (end : ℕ) → Reaches ts end → (w : What) (at : ℕ) → IsLimit tokens ts end w at → ⊥
-
--- the first such place, or none
+-- the first place of a 65th variable among these terminals, or none
 abbrev pub IsFirstTooMany : List Terminal → ℕ → Option ℕ → Type 0
 IsFirstTooMany ts end (Some at) = IsTooMany ts end at × ((k : ℕ) → IsTooMany ts end k → at ≤ k)
 IsFirstTooMany ts end None = (k : ℕ) → IsTooMany ts end k → ⊥
-
--- the least plain limit among these terminals, or none
-abbrev pub IsFirstPlain : List Token → List Terminal → ℕ → Option Met → Type 0
-IsFirstPlain tokens ts end (Some m) = IsPlainLimit tokens ts end m.what m.at × ((w : What) (at : ℕ) → IsPlainLimit tokens ts end w at → IsBefore m.at m.what at w)
-IsFirstPlain tokens ts end None = (w : What) (at : ℕ) → IsPlainLimit tokens ts end w at → ⊥
-
--- the least limit among these terminals that counts tell, or none
-abbrev pub IsFirstCounted : List Token → List Terminal → ℕ → Option Met → Type 0
-IsFirstCounted tokens ts end (Some m) = IsCountedLimit tokens ts end m.what m.at × ((w : What) (at : ℕ) → IsCountedLimit tokens ts end w at → IsBefore m.at m.what at w)
-IsFirstCounted tokens ts end None = (w : What) (at : ℕ) → IsCountedLimit tokens ts end w at → ⊥

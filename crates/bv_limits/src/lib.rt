@@ -8,7 +8,7 @@ mod plain;
 mod variables;
 
 pub use depths::first_deep_term;
-pub use laws::{one_first_limit, pieces_hold_terms};
+pub use laws::pieces_hold_terms;
 pub use limits::{first_counted_limit, first_limit, first_limit_before};
 pub use plain::{Met, first_plain_limit};
 pub use variables::first_variable_limit;

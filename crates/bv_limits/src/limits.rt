@@ -8,7 +8,7 @@ ghost use Rattle.bv_trees.specs.Trees.{Goal};
 ghost use Rattle.bv_trees.specs.Codes.{goal_pieces};
 ghost use Rattle.bv_limits.specs.Choosing as spec;
 ghost use Rattle.bv_limits.specs.Files.{IsLeast, IsMetIn};
-ghost use Rattle.bv_limits.specs.Limits.{IsFirstCounted, IsLimit};
+ghost use Rattle.bv_limits.specs.Limits.{IsCountedLimit, IsLimit};
 ghost use Rattle.bv_limits.specs.Limits as limits;
 
 use crate::depths::{first_deep_term, least_deep};
@@ -56,7 +56,7 @@ pub fn first_limit_before(
 /// The first limit that counts tell, where the tokens are taken so: those of `first_plain_limit`, and the 65th variable of a
 /// goal. Of several at one token that is told which stands first in `What`. Takes time linear in the number of tokens.
 pub fn first_counted_limit(tokens: &[Token], taken: &[Taken]) -> Option<Met>
-    ensures { (ts : List Terminal) → AreTaken ts taken.now → IsFirstCounted tokens.now ts (length taken.now) result }
+    ensures { (ts : List Terminal) → AreTaken ts taken.now → IsLeast (IsCountedLimit tokens.now ts (length taken.now)) result }
 {
     let plain = first_plain_limit(tokens, taken);
     let variable = variable(first_variable_limit(taken));

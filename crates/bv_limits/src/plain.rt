@@ -5,7 +5,8 @@ ghost use Rattle.bv_lex.specs.declared.fault.What.{What};
 ghost use Rattle.bv_grammar.specs.declared.words.Terminal.{Terminal};
 ghost use Rattle.bv_grammar.specs.Taking.{AreTaken};
 ghost use Rattle.bv_limits.specs.Counting as spec;
-ghost use Rattle.bv_limits.specs.Limits.{IsFirstPlain};
+ghost use Rattle.bv_limits.specs.Files.{IsLeast};
+ghost use Rattle.bv_limits.specs.Limits.{IsPlainLimit};
 ghost use Rattle.bv_limits.specs.Answers.{IsFirstOf};
 
 use bv_grammar::{Role, Taken, Word};
@@ -34,7 +35,7 @@ pub(crate) struct Counters {
 /// a goal's terms; the 1,025th goal. Of several at one token that is told which stands first in `What`. Takes time linear in
 /// the number of tokens.
 pub fn first_plain_limit(tokens: &[Token], taken: &[Taken]) -> Option<Met>
-    ensures { (ts : List Terminal) → AreTaken ts taken.now → IsFirstPlain tokens.now ts (length taken.now) result }
+    ensures { (ts : List Terminal) → AreTaken ts taken.now → IsLeast (IsPlainLimit tokens.now ts (length taken.now)) result }
 {
     find_limit(tokens, taken)
 }
