@@ -1,7 +1,8 @@
 //! The table and its seats.
 
+ghost use Rattle.gate_shape.specs.Builds.{OneEach};
 ghost use Rattle.gate_probe.specs.Sound.{IsPart};
-ghost use Rattle.gate_table.specs.Seats.{IsBelow};
+ghost use Rattle.gate_table.specs.Seats.{known_by, IsBelow};
 
 use crate::rule::SoundWords;
 use atomic_table::{Seat, Table};
@@ -47,10 +48,12 @@ impl Model for GateSeat {
 }
 
 impl GateSeat {
-    /// What a seat has seen is a part of sound words, at places of its table. Nothing is done.
+    /// What a seat has seen is a part of sound words, at places of its table, and of the literals that it
+    /// knows no two stand for one edge. Nothing is done.
     pub fn keeps(&self)
         ensures part { IsPart self.now.view.seen }
         ensures below { IsBelow self.now.table.words self.now.view.seen }
+        ensures once { OneEach (known_by self.now) }
     {
         let _seat = &self.seat;
     }
