@@ -3,3 +3,4 @@ pub mod Keeping
 pub mod Standing
 pub mod Meaning
 pub mod Searching
+pub mod Runs

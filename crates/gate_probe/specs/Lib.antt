@@ -6,3 +6,4 @@ pub mod Laws
 pub mod Views
 pub mod Moves
 pub mod Searching
+pub mod Runs

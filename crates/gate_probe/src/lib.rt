@@ -8,6 +8,6 @@ mod prober;
 mod tests;
 mod view;
 
-pub use laws::sound_words;
+pub use laws::{sound_words, whole_searches};
 pub use prober::{Move, Prober};
 pub use view::View;
