@@ -3,14 +3,11 @@ use Rattle.std.proofs.Common.{◌≡◌, ℕ, zero, suc, ◌+◌, ◌-◌, ◌*�
 use Rattle.std.proofs.lemmas.List.{append-nil, length-replicate}
 use Rattle.search_learn.proofs.Ordered.{lesson_times}
 use Rattle.std.specs.Prelude.{Some}
-use Rattle.std.specs.declared.vec.Vec.{Vec}
-use Rattle.std.specs.declared.alloc.Global.{Global}
 use Rattle.std.proofs.lemmas.Grind.{common_steps}
 use Rattle.sat_form.specs.Literals.{Literal}
 use Rattle.search_learn.specs.declared.Step.{Step}
 use Rattle.search_learn.specs.declared.Turn.TheVariants.{More, Unsat}
 use Rattle.search_learn.specs.Trail.{level}
-use Rattle.search_learn.specs.Rule.{lists}
 use Rattle.search_learn.specs.Analysis.{Lesson}
 use Rattle.search_learn.specs.Machine.{Clause, State, numbered, clause_at, after_lesson, raise, count_conflict, step}
 use Rattle.search_learn.specs.Kept.{Holds}
@@ -46,9 +43,9 @@ zero_kept zero i = refl
 zero_kept (suc n) zero = refl
 zero_kept (suc n) (suc i) = zero_kept n i
 
-pub holds_start : (vars : ℕ) (cs : List (List Literal)) (budget : ℕ) → budget ≤ 2 ^ 62 → (over : ℕ) (scores : List ℕ) (signs : List Bool) (learnt : List (Vec Literal Global)) (trail : List Step)
+pub holds_start : (vars : ℕ) (cs : List (List Literal)) (budget : ℕ) → budget ≤ 2 ^ 62 → (over : ℕ) (scores : List ℕ) (signs : List Bool) (learnt : List (List Literal)) (trail : List Step)
     → over ≡ vars → scores ≡ replicate vars 0 → signs ≡ replicate vars false → learnt ≡ [] → trail ≡ []
-    → Holds cs budget over (length learnt) (record { vars = vars; inputs = length cs; clauses = numbered 1 (cs ++ lists learnt); trail = trail; scores = scores; signs = signs; spent = 0; conflicts = 0; restarts = 0; since = 0; end = More })
+    → Holds cs budget over (length learnt) (record { vars = vars; inputs = length cs; clauses = numbered 1 (cs ++ learnt); trail = trail; scores = scores; signs = signs; spent = 0; conflicts = 0; restarts = 0; since = 0; end = More })
 holds_start vars cs budget limit over scores signs learnt trail v sc si le tr =
     let none : length learnt ≡ 0 = ap length le in
     record {
@@ -68,7 +65,7 @@ holds_start vars cs budget limit over scores signs learnt trail v sc si le tr =
         λ i. record {
           vars = vars;
           inputs = length cs;
-          clauses = (ap (λ l. numbered 1 (cs ++ lists l)) le ∙ ap (numbered 1) (append-nil cs)) i;
+          clauses = (ap (λ l. numbered 1 (cs ++ l)) le ∙ ap (numbered 1) (append-nil cs)) i;
           trail = tr i;
           scores = sc i;
           signs = si i;

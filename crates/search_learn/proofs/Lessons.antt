@@ -1,6 +1,6 @@
 -- What a conflict teaches.
 use Rattle.std.proofs.Common.{◌≡◌, ◌≢◌, ℕ, zero, suc, ◌+◌, ◌-◌, ◌*◌, ◌<◌, ◌≤◌, Bool, true, false, cond, nat_eq, List, [], ◌∷◌, ◌++◌, length, get_or, set, length-set, get_or-set_other, refl, ap, sym, ◌∙◌, subst, arith, length-append}
-use Rattle.std.proofs.lemmas.List.{length-map, append_assoc, map-append}
+use Rattle.std.proofs.lemmas.List.{append_assoc}
 use Rattle.std.proofs.lemmas.List.Elements.{All-nil, All-cons}
 use Rattle.std.proofs.lemmas.List.Sums.{sum_by-cons}
 use Rattle.search_learn.proofs.Decisions.{are_reasoned}
@@ -9,14 +9,12 @@ use Rattle.std.specs.declared.result.Result.{Result}
 use Rattle.search_learn.specs.declared.Learnt.{Learnt}
 use Rattle.std.specs.List.{find, All}
 use Rattle.std.specs.Option.{option_map_or}
-use Rattle.std.specs.declared.vec.Vec.{Vec}
-use Rattle.std.specs.declared.alloc.Global.{Global}
 use Rattle.std.proofs.lemmas.Grind.{common_steps}
 use Rattle.sat_form.specs.Literals.{Literal, member, negate, same_literal, set_of}
 use Rattle.sat_form.specs.Assignment.{clause_false, is_false}
 use Rattle.search_learn.specs.declared.Step.{Step}
 use Rattle.search_learn.specs.Trail.{assigned, level}
-use Rattle.search_learn.specs.Rule.{IsTrail, clause_with, lists}
+use Rattle.search_learn.specs.Rule.{IsTrail, clause_with}
 use Rattle.search_learn.specs.Analysis.{Lesson, Resolved, lesson, seen}
 use Rattle.search_learn.specs.Machine.{Clause, State, numbered, clause_at, false_clause, after_lesson, add_lesson, restart, raise, count_conflict, conflict_with, step}
 use Rattle.search_learn.proofs.Places.{same_clause, same_lesson}
@@ -37,12 +35,12 @@ id_range p k (x ∷ cs) c h =
       | false ↦ λ later. let deep = id_range p (k + 1) cs c later in let a = deep.0 in let b = deep.1 in (omega arith, omega arith)
     ] h
 
-pub id_known : (budget : ℕ) (m : State) (cs : List (List Literal)) (learnt : List (Vec Literal Global)) (id : ℕ) → m.clauses ≡ numbered 1 (cs ++ lists learnt) → IsConflict budget m id → (0 < id) × (id ≤ length cs + length learnt)
+pub id_known : (budget : ℕ) (m : State) (cs : List (List Literal)) (learnt : List (List Literal)) (id : ℕ) → m.clauses ≡ numbered 1 (cs ++ learnt) → IsConflict budget m id → (0 < id) × (id ≤ length cs + length learnt)
 id_known budget m cs learnt id all here =
-    let range = id_range (λ c. clause_false (assigned m.trail) c.lits) 1 (cs ++ lists learnt) here.clause (ap (find (λ c. clause_false (assigned m.trail) c.lits)) (sym all) ∙ here.found) in
+    let range = id_range (λ c. clause_false (assigned m.trail) c.lits) 1 (cs ++ learnt) here.clause (ap (find (λ c. clause_false (assigned m.trail) c.lits)) (sym all) ∙ here.found) in
     let a = range.0 in let b = range.1 in
     let is = here.is in
-    let size : length (cs ++ lists learnt) ≡ length cs + length learnt = length-append cs (lists learnt) ∙ ap (λ n. length cs + n) (length-map learnt (λ (v : Vec Literal Global). v.items)) in
+    let size : length (cs ++ learnt) ≡ length cs + length learnt = length-append cs learnt in
     (omega arith, omega arith)
 
 pub found_here : (m : State) (c : Clause) → Kept m → false_clause m ≡ Some c → IsKnown m.clauses m.vars c × (clause_false (assigned m.trail) c.lits ≡ true)
@@ -141,14 +139,12 @@ numbered_push k [] c id h = let e : k ≡ id = omega arith in ap (λ n. record {
 numbered_push k (x ∷ cs) c id h = ap (λ l. record { id = k; lits = x } ∷ l) (numbered_push (k + 1) cs c id (omega arith))
 
 -- A clause is learnt.
-pub clauses_pushed : (m : State) (cs : List (List Literal)) (learnt : List (Vec Literal Global)) (new : Vec Literal Global) (lits : List Literal) → m.clauses ≡ numbered 1 (cs ++ lists learnt) → m.inputs ≡ length cs → length learnt ≡ m.conflicts → new.items ≡ lits
-    → numbered 1 (cs ++ lists (learnt ++ new ∷ [])) ≡ m.clauses ++ record { id = m.inputs + (m.conflicts + 1); lits = lits } ∷ []
-clauses_pushed m cs learnt new lits all given each is =
-    let size : length (cs ++ lists learnt) ≡ length cs + length learnt = length-append cs (lists learnt) ∙ ap (λ n. length cs + n) (length-map learnt (λ (v : Vec Literal Global). v.items)) in
-    ap (λ l. numbered 1 (cs ++ l)) (map-append (λ (v : Vec Literal Global). v.items) learnt (new ∷ []))
-    ∙ ap (numbered 1) (sym (append_assoc cs (lists learnt) (new.items ∷ [])))
-    ∙ ap (λ x. numbered 1 ((cs ++ lists learnt) ++ x ∷ [])) is
-    ∙ numbered_push 1 (cs ++ lists learnt) lits (m.inputs + (m.conflicts + 1)) (omega arith)
+pub clauses_pushed : (m : State) (cs : List (List Literal)) (learnt : List (List Literal)) (lits : List Literal) → m.clauses ≡ numbered 1 (cs ++ learnt) → m.inputs ≡ length cs → length learnt ≡ m.conflicts
+    → numbered 1 (cs ++ (learnt ++ lits ∷ [])) ≡ m.clauses ++ record { id = m.inputs + (m.conflicts + 1); lits = lits } ∷ []
+clauses_pushed m cs learnt lits all given each =
+    let size : length (cs ++ learnt) ≡ length cs + length learnt = length-append cs learnt in
+    ap (numbered 1) (sym (append_assoc cs learnt (lits ∷ [])))
+    ∙ numbered_push 1 (cs ++ learnt) lits (m.inputs + (m.conflicts + 1)) (omega arith)
     ∙ ap (λ x. x ++ record { id = m.inputs + (m.conflicts + 1); lits = lits } ∷ []) (sym all)
 
 abbrev pub added : State → List Clause → List Step → List ℕ → ℕ → ℕ → State

@@ -1,7 +1,5 @@
 -- What the trail of a machine keeps.
-use Rattle.std.specs.Prelude.{◌∷◌, ◌++◌, [], ◌≡◌, ◌≢◌, ℕ, ◌-◌, nat_eq, if◌then◌else◌, ◌+◌, ◌<◌, ◌≤◌, false, List, map, get_or, Some}
-use Rattle.std.specs.declared.vec.Vec.{Vec}
-use Rattle.std.specs.declared.alloc.Global.{Global}
+use Rattle.std.specs.Prelude.{◌∷◌, ◌++◌, [], ◌≡◌, ◌≢◌, ℕ, ◌-◌, nat_eq, if◌then◌else◌, ◌+◌, ◌<◌, ◌≤◌, false, List, get_or, Some}
 use Rattle.sat_form.specs.Literals.{Literal}
 use Rattle.search_learn.specs.declared.Step.{Step}
 use Rattle.search_learn.specs.Trail.{is_assigned, level, unit_literal}
@@ -30,9 +28,6 @@ IsTrail clause_of vars trail = Continues clause_of vars [] trail
 abbrev pub clause_with : List (List Literal) → ℕ → List Literal
 clause_with cs id = if nat_eq id 0 then [] else get_or cs (id - 1) []
 
-abbrev pub lists : List (Vec Literal Global) → List (List Literal)
-lists vs = map (λ v. v.items) vs
-
 -- the same where the learnt clauses stand behind those given
-abbrev pub clause_by_id : List (List Literal) → List (Vec Literal Global) → ℕ → List Literal
-clause_by_id cs learnt = clause_with (cs ++ lists learnt)
+abbrev pub clause_by_id : List (List Literal) → List (List Literal) → ℕ → List Literal
+clause_by_id cs learnt = clause_with (cs ++ learnt)

@@ -22,7 +22,7 @@ mod trail;
 pub use laws::{runs_end, sat_is_true, trails_follow};
 pub use learner::Learner;
 pub use moves::{assign, is_restart, luby, put_entries, restart};
-use sat_form::{Cnf, Lit};
+use sat_form::{Clauses, Cnf, Lit};
 use std::alloc::{AllocError, Global};
 pub use trail::Trail;
 
@@ -123,18 +123,18 @@ fn put_all(set: &mut Vec<Lit>, lits: &[Lit]) -> Result<(), AllocError>
 }
 
 /// A learnt clause, without literals where there is none.
-fn learnt_at(learnt: &[Vec<Lit>], place: usize) -> &[Lit]
-    ensures { result.now ≡ get_or (rule.lists learnt.now) place [] }
+fn learnt_at(learnt: &Clauses, place: usize) -> &[Lit]
+    ensures { result.now ≡ get_or learnt.now place [] }
 {
     match learnt.get(place) {
-        Some(lits) => lits.as_slice(),
+        Some(lits) => lits,
         None => &[],
     }
 }
 
 /// The clause at a place, from 0: the given ones and then the learnt ones; without literals where there is none. O(1).
-pub fn clause_at<'a>(clauses: &'a Cnf, learnt: &'a [Vec<Lit>], place: usize) -> &'a [Lit]
-    ensures { result.now ≡ get_or (clauses.now.clauses ++ rule.lists learnt.now) place [] }
+pub fn clause_at<'a>(clauses: &'a Cnf, learnt: &'a Clauses, place: usize) -> &'a [Lit]
+    ensures { result.now ≡ get_or (clauses.now.clauses ++ learnt.now) place [] }
 {
     match clauses.clauses.get(place) {
         Some(lits) => lits,
@@ -143,8 +143,8 @@ pub fn clause_at<'a>(clauses: &'a Cnf, learnt: &'a [Vec<Lit>], place: usize) -> 
 }
 
 /// The literals of the clause with this id, none where there is no such clause.
-fn clause_with<'a>(clauses: &'a Cnf, learnt: &'a [Vec<Lit>], id: u64) -> &'a [Lit]
-    ensures { result.now ≡ rule.clause_with (clauses.now.clauses ++ rule.lists learnt.now) id }
+fn clause_with<'a>(clauses: &'a Cnf, learnt: &'a Clauses, id: u64) -> &'a [Lit]
+    ensures { result.now ≡ rule.clause_with (clauses.now.clauses ++ learnt.now) id }
 {
     if id == 0 {
         return &[];
@@ -248,7 +248,7 @@ pub struct Learnt {
 pub fn learn(
     alloc: Global,
     clauses: &Cnf,
-    learnt: &[Vec<Lit>],
+    learnt: &Clauses,
     trail: &[Step],
     level: u32,
     false_id: u64,

@@ -5,17 +5,16 @@ ghost use Rattle.std.specs.List.{find, list_any, list_all, range_with_len};
 ghost use Rattle.std.specs.Option.{option_map};
 ghost use Rattle.search_learn.specs.Machine as machine;
 ghost use Rattle.search_learn.specs.Machine.{numbered};
-ghost use Rattle.search_learn.specs.Rule.{lists};
 ghost use Rattle.search_learn.specs.Trail as trails;
 
 use crate::scan;
-use sat_form::{Cnf, Lit};
+use sat_form::{Clauses, Cnf, Lit};
 use search_learn::{Trail, clause_at};
 
 /// The least id of a clause that is false.
-pub fn false_clause(clauses: &Cnf, learnt: &[Vec<Lit>], trail: &Trail) -> Option<u64>
+pub fn false_clause(clauses: &Cnf, learnt: &Clauses, trail: &Trail) -> Option<u64>
     requires room { length clauses.now.clauses + length learnt.now < 2 ^ 63 }
-    ensures { result ≡ option_map (λ c. c.id) (find (λ c. trails.clause_false trail.now.steps c.lits) (numbered 1 (clauses.now.clauses ++ lists learnt.now))) }
+    ensures { result ≡ option_map (λ c. c.id) (find (λ c. trails.clause_false trail.now.steps c.lits) (numbered 1 (clauses.now.clauses ++ learnt.now))) }
 {
     let count = clauses.clauses.len() + learnt.len();
     for place in 0..count {
@@ -27,9 +26,9 @@ pub fn false_clause(clauses: &Cnf, learnt: &[Vec<Lit>], trail: &Trail) -> Option
 }
 
 /// Whether some clause is unit.
-pub fn has_unit(clauses: &Cnf, learnt: &[Vec<Lit>], trail: &Trail) -> bool
+pub fn has_unit(clauses: &Cnf, learnt: &Clauses, trail: &Trail) -> bool
     requires room { length clauses.now.clauses + length learnt.now < 2 ^ 63 }
-    ensures { result ≡ list_any (λ c. not (is_none (trails.unit_literal trail.now.steps c.lits))) (numbered 1 (clauses.now.clauses ++ lists learnt.now)) }
+    ensures { result ≡ list_any (λ c. not (is_none (trails.unit_literal trail.now.steps c.lits))) (numbered 1 (clauses.now.clauses ++ learnt.now)) }
 {
     let count = clauses.clauses.len() + learnt.len();
     for place in 0..count {

@@ -17,7 +17,7 @@ mod clauses;
 mod moves;
 mod scan;
 
-use sat_form::{Cnf, Lit};
+use sat_form::{Clauses, Cnf, Lit};
 use search_learn::{Learnt, Step, Trail, Turn, assign, learn, put_entries, restart};
 use std::alloc::{AllocError, Global};
 use std::marker::Model;
@@ -29,7 +29,7 @@ use std::marker::Model;
 pub struct Plain {
     alloc: Global,
     clauses: Cnf,
-    learnt: Vec<Vec<Lit>>,
+    learnt: Clauses,
     trail: Trail,
     scores: Vec<u128>,
     signs: Vec<bool>,
@@ -58,7 +58,6 @@ impl Model for Plain {
     ghost use Rattle.std.specs.Option.{option_map};
     ghost use Rattle.search_learn.specs.Analysis.{seen};
     ghost use Rattle.search_learn.specs.Machine.{numbered};
-    ghost use Rattle.search_learn.specs.Rule.{lists};
     ghost use Rattle.search_learn.specs.Engine.{Engine};
     ghost use Rattle.search_learn.specs.Kept.{Holds};
 
@@ -71,7 +70,7 @@ impl Model for Plain {
       state = record {
         vars = p.clauses.vars;
         inputs = length p.clauses.clauses;
-        clauses = numbered 1 (p.clauses.clauses ++ lists p.learnt.items);
+        clauses = numbered 1 (p.clauses.clauses ++ p.learnt);
         trail = p.trail.steps;
         scores = p.scores.items;
         signs = p.signs.items;
@@ -85,10 +84,10 @@ impl Model for Plain {
       broken = p.broken;
     } };
 
-    ghost invariant = { λ p. p.broken ≡ false → Holds p.clauses.clauses p.budget p.trail.vars (length p.learnt.items) (record {
+    ghost invariant = { λ p. p.broken ≡ false → Holds p.clauses.clauses p.budget p.trail.vars (length p.learnt) (record {
       vars = p.clauses.vars;
       inputs = length p.clauses.clauses;
-      clauses = numbered 1 (p.clauses.clauses ++ lists p.learnt.items);
+      clauses = numbered 1 (p.clauses.clauses ++ p.learnt);
       trail = p.trail.steps;
       scores = p.scores.items;
       signs = p.signs.items;
@@ -110,7 +109,7 @@ impl Plain {
         Ok(Plain {
             alloc,
             clauses: cnf.copy(alloc)?,
-            learnt: Vec::new(alloc),
+            learnt: Clauses::new(alloc),
             trail: Trail::new(alloc, cnf.vars)?,
             scores: vec![in alloc; 0; vars]?,
             signs: vec![in alloc; false; vars]?,
@@ -303,8 +302,7 @@ impl Plain {
         ensures kept { OnErr result (IsSameTask self.old self.new) }
     {
         self.broken = true;
-        let lits = Vec::from_slice(self.alloc, &learnt.lits)?;
-        self.learnt.push(lits)?;
+        self.learnt.push(&learnt.lits)?;
         self.spent += 1;
         self.conflicts += 1;
         self.since += 1;

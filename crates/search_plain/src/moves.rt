@@ -4,10 +4,9 @@ ghost use Rattle.std.specs.Prelude.{◌*◌, ◌+◌, ◌++◌, ◌-◌, ◌<◌
 ghost use Rattle.search_learn.specs.Cases.{times, unit_entries};
 ghost use Rattle.search_learn.specs.Machine as machine;
 ghost use Rattle.search_learn.specs.Machine.{numbered};
-ghost use Rattle.search_learn.specs.Rule.{lists};
 
 use crate::scan;
-use sat_form::{Cnf, Lit};
+use sat_form::{Clauses, Cnf, Lit};
 use search_learn::{Step, Trail, clause_at};
 use std::alloc::{AllocError, Global};
 
@@ -15,12 +14,12 @@ use std::alloc::{AllocError, Global};
 pub fn units(
     alloc: Global,
     clauses: &Cnf,
-    learnt: &[Vec<Lit>],
+    learnt: &Clauses,
     trail: &Trail,
     level: u32,
 ) -> Result<Vec<Step>, AllocError>
     requires room { length clauses.now.clauses + length learnt.now < 2 ^ 63 }
-    ensures { IfOk result (λ entries. entries.items ≡ unit_entries trail.now.steps level (numbered 1 (clauses.now.clauses ++ lists learnt.now))) }
+    ensures { IfOk result (λ entries. entries.items ≡ unit_entries trail.now.steps level (numbered 1 (clauses.now.clauses ++ learnt.now))) }
 {
     let count = clauses.clauses.len() + learnt.len();
     let mut entries = Vec::new(alloc);

@@ -1,29 +1,45 @@
 //! That the machine by watched literals goes as the plain one does.
 
-ghost use Rattle.std.specs.Prelude.{◌<◌, ◌≡◌, ◌≤◌, true};
+ghost use Rattle.std.specs.Prelude.{◌<◌, ◌^◌, ◌≡◌, true};
 ghost use Rattle.sat_form.specs.Shape.{are_within, variables_within};
 
 use crate::Plain;
 use sat_form::{Clauses, Cnf, Lit};
-use search_learn::Learnt;
+use search_learn::{Learnt, Turn};
 use search_watch::Rounds;
 use std::alloc::{AllocError, Global};
 use std::test::Fail;
 
-/// Clauses over 30 variables that are made: those so far, and the open one.
+/// Clauses over the variables 1 to `vars` that are made: those so far, and the open one.
 #[derive(Drop)]
 struct Draft {
+    vars: u32,
     open: Vec<Lit>,
     clauses: Clauses,
-    ghost within: { are_within 30 open.items ≡ true },
-    ghost closed: { variables_within 30 clauses ≡ true },
+    ghost small: { vars < 2 ^ 31 },
+    ghost within: { are_within vars open.items ≡ true },
+    ghost closed: { variables_within vars clauses ≡ true },
+}
+
+/// No clause.
+fn empty(alloc: Global, vars: u32) -> Draft
+    requires { vars < 2 ^ 31 }
+{
+    Draft {
+        vars,
+        open: Vec::new(alloc),
+        clauses: Clauses::new(alloc),
+    }
 }
 
 impl Draft {
+    /// A literal of the open clause, where its variable is one of them.
     fn literal(&mut self, var: u32, positive: bool) -> Result<(), AllocError>
-        requires { (0 < var) × (var ≤ 30) }
+        requires { 0 < var }
     {
-        self.open.push(Lit::new(var, positive))?;
+        if var <= self.vars {
+            self.open.push(Lit::new(var, positive))?;
+        }
         Ok(())
     }
 
@@ -31,6 +47,15 @@ impl Draft {
         self.clauses.push(&self.open)?;
         self.open.clear();
         Ok(())
+    }
+
+    /// A literal of the open clause as DIMACS writes it, or the 0 behind the clause.
+    fn take(&mut self, number: i32) -> Result<(), AllocError> {
+        if number == 0 {
+            self.close()
+        } else {
+            self.literal(number.unsigned_abs(), number > 0)
+        }
     }
 
     /// A pigeon is in one of five holes.
@@ -59,10 +84,7 @@ impl Draft {
 
 /// Six pigeons are in five holes.
 fn pigeons(alloc: Global) -> Result<Draft, AllocError> {
-    let mut draft = Draft {
-        open: Vec::new(alloc),
-        clauses: Clauses::new(alloc),
-    };
+    let mut draft = empty(alloc, 30);
     for pigeon in 0..6 {
         draft.is_housed(pigeon)?;
         for other in 0..pigeon {
@@ -72,13 +94,29 @@ fn pigeons(alloc: Global) -> Result<Draft, AllocError> {
     Ok(draft)
 }
 
+/// The clauses that say that `(a && (b && c)) = ((a && b) && c)` is false, each ended by 0.
+const ASSOCIATIVITY: [i32; 74] = [
+    1, 0, -5, 3, 0, -5, 4, 0, 5, -3, -4, 0, -6, 2, 0, -6, 5, 0, 6, -2, -5, 0, -7, 2, 0, -7, 3, 0,
+    7, -2, -3, 0, -8, 4, 0, -8, 7, 0, 8, -4, -7, 0, -9, 6, 0, -9, 8, 0, 9, -6, -8, 0, -10, -6, 0,
+    -10, -8, 0, 10, 6, 8, 0, -11, -9, 0, -11, -10, 0, 11, 9, 10, 0, 11, 0,
+];
+
+/// The clauses of that goal.
+fn associativity(alloc: Global) -> Result<Draft, AllocError> {
+    let mut draft = empty(alloc, 11);
+    for number in &ASSOCIATIVITY {
+        draft.take(*number)?;
+    }
+    Ok(draft)
+}
+
 /// The formula of the clauses, which are few enough.
 fn formula(draft: Draft) -> Option<Cnf> {
-    let Draft { clauses, .. } = draft;
+    let Draft { vars, clauses, .. } = draft;
     if clauses.len() >= 1 << 62 {
         return None;
     }
-    Some(Cnf { vars: 30, clauses })
+    Some(Cnf { vars, clauses })
 }
 
 fn is_same(one: &Learnt, other: &Learnt) -> bool {
@@ -114,25 +152,42 @@ fn go_alike(plain: &mut Plain, rounds: &mut Rounds, count: u32) -> Result<bool, 
     Ok(true)
 }
 
-/// What is spent where 2,000 steps of both came to the same.
-fn spent_alike(alloc: Global, cnf: &Cnf, plain: &mut Plain) -> Result<Option<u64>, AllocError> {
+/// What both came to, and what is spent, where 2,000 steps of both came to the same; more steps than both take.
+fn end_alike(
+    alloc: Global,
+    cnf: &Cnf,
+    plain: &mut Plain,
+) -> Result<Option<(Turn, u64)>, AllocError> {
     let mut rounds = Rounds::new(alloc, cnf, 1 << 20)?;
     if go_alike(plain, &mut rounds, 2000)? {
-        Ok(Some(rounds.spent()))
+        Ok(Some((rounds.step()?, rounds.spent())))
     } else {
         Ok(None)
     }
 }
 
-fn spent_on(alloc: Global, cnf: &Cnf) -> Result<Option<u64>, AllocError> {
-    let mut plain = Plain::new(alloc, cnf, 1 << 20)?;
-    spent_alike(alloc, cnf, &mut plain)
+fn end_of(alloc: Global, draft: Draft) -> Result<Option<(Turn, u64)>, AllocError> {
+    match formula(draft) {
+        Some(cnf) => {
+            let mut plain = Plain::new(alloc, &cnf, 1 << 20)?;
+            end_alike(alloc, &cnf, &mut plain)
+        }
+        None => Ok(None),
+    }
 }
 
 /// There is a restart among the steps, behind 64 conflicts. What is spent is also what a C form of the machine spends.
 #[test]
 fn both_machines_go_alike(rt: HostRuntime) -> Result<(), Fail> {
-    let cnf = formula(pigeons(rt.alloc())?).ok_or("too many clauses")?;
-    assert_eq!(rt; spent_on(rt.alloc(), &cnf)?, Some(1365));
+    let end = end_of(rt.alloc(), pigeons(rt.alloc())?)?;
+    assert_eq!(rt; end, Some((Turn::Unsat, 1365)));
+    Ok(())
+}
+
+/// The clauses are those of a goal, with gates and a few conflicts.
+#[test]
+fn both_machines_go_alike_on_a_goal(rt: HostRuntime) -> Result<(), Fail> {
+    let end = end_of(rt.alloc(), associativity(rt.alloc())?)?;
+    assert_eq!(rt; end, Some((Turn::Unsat, 28)));
     Ok(())
 }

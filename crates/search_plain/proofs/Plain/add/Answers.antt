@@ -8,10 +8,7 @@ use Rattle.search_learn.proofs.Steps as steps
 use Rattle.search_learn.proofs.Cases as cases
 use Rattle.search_learn.proofs.Held as lessons
 use Rattle.search_learn.proofs.Lessons as learnt
-use Rattle.std.specs.declared.vec.Vec.{Vec}
-use Rattle.std.specs.declared.alloc.Global.{Global}
 use Rattle.search_learn.specs.Analysis.{seen}
-use Rattle.search_learn.specs.Rule.{lists}
 use Rattle.search_learn.specs.Machine.{numbered, add_lesson, count_conflict}
 use Rattle.search_learn.proofs.Reach.{cut_continues}
 use Rattle.search_plain.proofs.Plain.add.Goals as goal
@@ -59,8 +56,9 @@ invariant_of-self-2 c =
     let here = rw (← c.self.view_is) at c.requires.here in
     let kept = steps.kept_of p.clauses.clauses p.budget _ _ m p.clauses.in_range holds in
     let s = seen c.args.learnt in
-    let pushed = ap (λ (l : List (Vec Literal Global)). numbered 1 (p.clauses.clauses ++ lists l)) c.in_ok-push.ensures.items
-    ∙ learnt.clauses_pushed m p.clauses.clauses p.learnt.items c.in_ok-lits.lits s.lits refl refl (holds.each here.before) (c.in_ok-lits.ensures.items ∙ c.deref.ensures.value) in
+    let more = (rw (c.deref.ensures.value) at c.in_ok-push.ensures).ok in
+    let pushed = ap (λ (l : List (List Literal)). numbered 1 (p.clauses.clauses ++ l)) more
+    ∙ learnt.clauses_pushed m p.clauses.clauses p.learnt s.lits refl refl (holds.each here.before) in
     let raised = rw (c.deref_mut.ensures.value, c.deref-2.ensures.value) at c.raise.ensures in
     let scores_back = with_items_is p.scores c.raise.new.scores (ap length raised ∙ learnt.length_raised (m.conflicts + 1) m.scores s.lits ∙ sym p.scores.ok.0) in
     let scores = scores_back ∙ raised in
@@ -68,7 +66,7 @@ invariant_of-self-2 c =
     let restarted = out.restart (add_lesson (count_conflict m) s) (sym (ap (λ (t : Entries). t.steps) c.cut.ensures)) refl refl in
     let moves = learnt.add_moves p.budget m s _ _ _ _ _ here c.requires.some pushed scores restarted in
     let over : c.restart.new.trail.vars ≡ m.vars = out.vars ∙ ap (λ (t : Entries). t.vars) c.cut.ensures ∙ holds.over in
-    λ _. lessons.holds_add p.clauses.clauses p.budget _ _ _ m s _ _ _ _ _ _ holds kept here moves scores over out.restarts out.since (ap length c.in_ok-push.ensures.items ∙ length-append p.learnt.items (c.in_ok-lits.lits ∷ []))
+    λ _. lessons.holds_add p.clauses.clauses p.budget _ _ _ m s _ _ _ _ _ _ holds kept here moves scores over out.restarts out.since (ap length more ∙ length-append p.learnt (s.lits ∷ []))
 
 pub returns-clause-ok : goal.returns-clause-ok
 returns-clause-ok c =
@@ -78,8 +76,9 @@ returns-clause-ok c =
     let holds = c.self.invariant whole in
     let here = rw (← c.self.view_is) at c.requires.here in
     let s = seen c.args.learnt in
-    let pushed = ap (λ (l : List (Vec Literal Global)). numbered 1 (p.clauses.clauses ++ lists l)) c.in_ok-push.ensures.items
-    ∙ learnt.clauses_pushed m p.clauses.clauses p.learnt.items c.in_ok-lits.lits s.lits refl refl (holds.each here.before) (c.in_ok-lits.ensures.items ∙ c.deref.ensures.value) in
+    let more = (rw (c.deref.ensures.value) at c.in_ok-push.ensures).ok in
+    let pushed = ap (λ (l : List (List Literal)). numbered 1 (p.clauses.clauses ++ l)) more
+    ∙ learnt.clauses_pushed m p.clauses.clauses p.learnt s.lits refl refl (holds.each here.before) in
     let raised = rw (c.deref_mut.ensures.value, c.deref-2.ensures.value) at c.raise.ensures in
     let scores_back = with_items_is p.scores c.raise.new.scores (ap length raised ∙ learnt.length_raised (m.conflicts + 1) m.scores s.lits ∙ sym p.scores.ok.0) in
     let restarted = c.restart.ensures.restart (add_lesson (count_conflict m) s) (sym (ap (λ (t : Entries). t.steps) c.cut.ensures)) refl refl in

@@ -17,7 +17,7 @@ put_entries-requires-clause-within c =
     let p = c.self.inside in
     let holds = c.self.invariant (rw (← c.self.view_is) at c.requires.whole) in
     let kept = steps.kept_of p.clauses.clauses p.budget _ _ (the_view p).state p.clauses.in_range holds in
-    rw (c.deref-2.ensures.value, c.in_ok-entries.ensures, c.deref.ensures.value, holds.over)
+    rw (c.deref.ensures.value, c.in_ok-entries.ensures, holds.over)
     (cases.entries_within p.trail.steps c.level-level.result p.clauses.vars (the_view p).state.clauses kept.within)
 
 pub invariant_of-self-2 : goal.invariant_of-self-2
@@ -30,8 +30,8 @@ invariant_of-self-2 c =
     let out = c.in_ok-self-inside.ensures in
     let size : length c.put_entries.new.signs ≡ length p.signs.items = out.signs ∙ ap length c.deref_mut.ensures.value in
     let signs = with_items_is p.signs c.put_entries.new.signs (size ∙ sym p.signs.ok.0) in
-    let entries = rw (c.deref.ensures.value, c.level-level.ensures.level) at c.in_ok-entries.ensures in
-    let moves = cases.round_is p.budget m _ c.deref-2.result.now here (c.deref-2.ensures.value ∙ entries) (out.put m refl (sym c.deref_mut.ensures.value))
+    let entries = rw (c.level-level.ensures.level) at c.in_ok-entries.ensures in
+    let moves = cases.round_is p.budget m _ c.deref.result.now here (c.deref.ensures.value ∙ entries) (out.put m refl (sym c.deref_mut.ensures.value))
     ∙ ap (λ (x : List Bool). quietly (record m { trail = c.put_entries.new.trail.steps; signs = x; spent = p.spent + c.in_ok-self-inside.field-0 })) (sym signs) in
     λ _. steps.holds_more p.clauses.clauses p.budget _ _ _ m _ _ _ holds moves (out.vars ∙ holds.over) (ap length signs ∙ size ∙ holds.signs) (omega arith)
 
@@ -44,7 +44,7 @@ returns-clause-ok c =
     let out = c.in_ok-self-inside.ensures in
     let size : length c.put_entries.new.signs ≡ length p.signs.items = out.signs ∙ ap length c.deref_mut.ensures.value in
     let signs = with_items_is p.signs c.put_entries.new.signs (size ∙ sym p.signs.ok.0) in
-    let entries = rw (c.deref.ensures.value, c.level-level.ensures.level) at c.in_ok-entries.ensures in
-    let moves = cases.round_is p.budget m _ c.deref-2.result.now here (c.deref-2.ensures.value ∙ entries) (out.put m refl (sym c.deref_mut.ensures.value))
+    let entries = rw (c.level-level.ensures.level) at c.in_ok-entries.ensures in
+    let moves = cases.round_is p.budget m _ c.deref.result.now here (c.deref.ensures.value ∙ entries) (out.put m refl (sym c.deref_mut.ensures.value))
     ∙ ap (λ (x : List Bool). quietly (record m { trail = c.put_entries.new.trail.steps; signs = x; spent = p.spent + c.in_ok-self-inside.field-0 })) (sym signs) in
     rw (← c.self.view_is) (cases.stepped_whole (the_view p) _ moves whole)
