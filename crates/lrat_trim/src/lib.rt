@@ -13,6 +13,8 @@ mod laws;
 mod lines;
 mod needed;
 mod renumber;
+#[cfg(test)]
+mod tests;
 mod text;
 
 pub use laws::{trimmed_check, trimmed_reached};
